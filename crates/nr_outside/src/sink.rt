@@ -1,0 +1,24 @@
+//! Where bytes are written.
+ghost use Rattle.std.specs.Prelude.{◌≡◌, ◌++◌, List, ℕ, OnOk};
+ghost use Rattle.nr_outside.specs.Causes.{HasCause};
+ghost use Rattle.nr_outside.specs.Bytes.{AddsPart};
+
+use crate::fault::Fault;
+
+/// Where text is written. A sink may tell the bytes that it holds, and it counts its faults.
+pub trait Sink {
+    /// It tells what it holds.
+    ghost Tells: { Type 0 };
+
+    /// What it holds.
+    ghost bytes: { Self → List ℕ };
+
+    /// How often it has failed.
+    ghost faults: { Self → ℕ };
+
+    /// Adds the piece, or where it is refused some first bytes of it.
+    fn write(&mut self, piece: &[u8]) -> Result<(), Fault>
+        ensures ok { Tells → OnOk result (bytes self.new ≡ bytes self.old ++ piece.now) }
+        ensures part { Tells → AddsPart (bytes self.old) (bytes self.new) piece.now }
+        ensures cause { HasCause (faults self.old) (faults self.new) result };
+}
