@@ -1,0 +1,5 @@
+pub mod Place
+pub mod Reader
+pub mod Bytes
+pub mod Clauses
+pub mod Grammar

@@ -1,0 +1,10 @@
+//! Places, readers, writers and grammars; names and descriptors.
+#![tactic(auto)]
+
+mod cur;
+mod items;
+mod put;
+
+pub use cur::{Cur, Short};
+pub use items::Items;
+pub use put::Put;
