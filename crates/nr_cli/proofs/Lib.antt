@@ -1,2 +1,4 @@
 pub mod Numbers
 pub mod Orders
+pub mod Exits
+pub mod Fitting

@@ -82,4 +82,4 @@ command_of words = None
 
 -- what a command of the program stands for
 abbrev pub told : RunCommand → Command
-told c = record { dir = c.dir.now; main = c.main.items; budget = c.budget; ints = c.ints.items }
+told c = record { dir = c.dir.now; main = c.main; budget = c.budget; ints = c.ints }

@@ -6,15 +6,16 @@ ghost use Rattle.std.specs.List.{list_all};
 ghost use Rattle.std.specs.Str.Parse.{digits_value};
 ghost use Rattle.nr_cli.specs.Words.{is_number, number_within, budget_of, int_of, ints_onto, ints_of, fits_word, slashed, is_name_byte, are_segments, class_name_of, command_of, told};
 
+use nr_base::Items;
 use std::alloc::{AllocError, Global};
 
 /// The command `run`: which class of which folder, for how many steps at most, on which numbers.
 #[derive(Drop)]
 pub struct RunCommand<'a> {
     pub dir: &'a str,
-    pub main: Vec<u8>,
+    pub main: Items<u8>,
     pub budget: u32,
-    pub ints: Vec<i32>,
+    pub ints: Items<i32>,
 }
 
 fn all_digits(word: &[u8]) -> bool
@@ -79,8 +80,8 @@ fn read_int(word: &str) -> Option<i32>
 }
 
 // The numbers of `main`'s array, of at most 1,000 words.
-fn read_ints(alloc: Global, words: &[&str]) -> Result<Option<Vec<i32>>, AllocError>
-    ensures { IfOk result (λ o. option_map (λ v. v.items) o ≡ ints_of (map (λ w. w.now) words.now)) }
+fn read_ints(alloc: Global, words: &[&str]) -> Result<Option<Items<i32>>, AllocError>
+    ensures { IfOk result (λ o. o ≡ ints_of (map (λ w. w.now) words.now)) }
 {
     if words.len() > 1000 {
         return Ok(None);
@@ -94,7 +95,7 @@ fn read_ints(alloc: Global, words: &[&str]) -> Result<Option<Vec<i32>>, AllocErr
         ints.push(int)?;
         rest = after;
     }
-    Ok(Some(ints))
+    Ok(Some(Items::from_vec(ints)))
 }
 
 fn is_word(word: &str) -> bool
@@ -110,7 +111,7 @@ fn is_part_of_name(byte: u8) -> bool
 }
 
 // Whether the bytes are segments with `/` between, none of them empty.
-fn is_segmented(bytes: &[u8]) -> bool
+pub fn is_segmented(bytes: &[u8]) -> bool
     ensures { result ≡ are_segments true bytes.now }
 {
     let mut starts = true;
@@ -141,8 +142,8 @@ fn with_slashes(alloc: Global, word: &str) -> Result<Vec<u8>, AllocError>
 }
 
 // The internal form of a class name.
-fn read_class_name(alloc: Global, word: &str) -> Result<Option<Vec<u8>>, AllocError>
-    ensures { IfOk result (λ o. option_map (λ v. v.items) o ≡ class_name_of word.now) }
+fn read_class_name(alloc: Global, word: &str) -> Result<Option<Items<u8>>, AllocError>
+    ensures { IfOk result (λ o. o ≡ class_name_of word.now) }
 {
     if !is_word(word) {
         return Ok(None);
@@ -151,7 +152,7 @@ fn read_class_name(alloc: Global, word: &str) -> Result<Option<Vec<u8>>, AllocEr
     if !is_segmented(&name) {
         return Ok(None);
     }
-    Ok(Some(name))
+    Ok(Some(Items::from_vec(name)))
 }
 
 /// The command that the words after the program's name give, or none where they fit no row of the word table.

@@ -1,0 +1,31 @@
+-- How the program ends, and what it writes then. The project's own rules.
+use Rattle.std.specs.Prelude.{ℕ, List, [], ◌∷◌, ◌++◌, codes}
+use Rattle.std.specs.Fmt.{decimal, signed_decimal}
+use Rattle.nr_cli.specs.Spelling.{spelled, spelled_fault}
+use Rattle.nr_cli.specs.declared.ending.End.{End}
+use Rattle.nr_cli.specs.declared.ending.End.TheVariants.{Returned, Words, Folder, Class, NoClass, Budget, Memory}
+
+abbrev pub status_of : End → ℕ
+status_of (Returned n) = 0
+status_of Words = 2
+status_of Folder = 3
+status_of (Class path fault) = 4
+status_of (NoClass name) = 5
+status_of (Budget n) = 9
+status_of Memory = 12
+
+abbrev pub out_of : End → List ℕ
+out_of (Returned n) = codes "result " ++ signed_decimal n ++ 10 ∷ []
+out_of end = []
+
+abbrev pub line : List ℕ → List ℕ
+line text = codes "nrmi: " ++ text ++ 10 ∷ []
+
+abbrev pub err_of : End → List ℕ
+err_of (Returned n) = []
+err_of Words = line (codes "words")
+err_of Folder = line (codes "folder")
+err_of (Class path fault) = line (codes "class " ++ spelled path ++ codes " " ++ spelled_fault fault)
+err_of (NoClass name) = line (codes "link NoClass " ++ spelled name)
+err_of (Budget n) = line (codes "budget " ++ decimal n)
+err_of Memory = line (codes "memory")
