@@ -1,4 +1,6 @@
 // Writing a whole piece to a writer of the system's.
+ghost use Rattle.std.specs.Prelude.{OnOk};
+ghost use Rattle.std.specs.Io.KnownBytes.{Appends};
 ghost use Rattle.nr_outside.specs.Causes.{HasCause};
 
 use crate::counted::{counted, failed};
@@ -11,7 +13,8 @@ pub fn write_whole<W: Write>(
     piece: &[u8],
     faults: &mut u64,
 ) -> Result<(), Fault>
-    ensures { HasCause faults.old faults.new result }
+    ensures bytes { OnOk result (Appends (W.contents writer.old) (W.contents writer.new) piece.now) }
+    ensures cause { HasCause faults.old faults.new result }
 {
     let mut rest = piece;
     'pieces: for _ in 0..u64::MAX {

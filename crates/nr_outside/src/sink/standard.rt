@@ -1,5 +1,6 @@
 // A sink over a writer of the system's. It tells nothing.
-ghost use Rattle.std.specs.Prelude.{◌≡◌, ◌≤◌, []};
+ghost use Rattle.std.specs.Prelude.{[], OnOk};
+ghost use Rattle.std.specs.Io.KnownBytes.{Keeps};
 ghost use Rattle.nr_outside.specs.Causes.{HasCause};
 
 use crate::counted::{counted, failed};
@@ -24,9 +25,10 @@ impl<W: Write + Drop> StdSink<W> {
 
 // Flushes the writer, again where that is interrupted.
 fn flush<W: Write>(writer: &mut W, faults: &mut u64) -> Result<(), Fault>
-    ensures { HasCause faults.old faults.new result }
+    ensures bytes { OnOk result (Keeps (W.contents writer.old) (W.contents writer.new)) }
+    ensures cause { HasCause faults.old faults.new result }
 {
-    for _ in 0..u64::MAX {
+    'tries: for _ in 0..u64::MAX {
         match writer.flush() {
             Ok(()) => return Ok(()),
             Err(error) if error.kind() == ErrorKind::Interrupted => {}
