@@ -30,7 +30,11 @@ pub fn class_paths(
 }
 
 // The bytes of a file.
-pub fn bytes_of<'a>(files: &'a [(String, String, Vec<u8>)], dir: &str, path: &str) -> Option<&'a [u8]>
+pub fn bytes_of<'a>(
+    files: &'a [(String, String, Vec<u8>)],
+    dir: &str,
+    path: &str,
+) -> Option<&'a [u8]>
     ensures { MatchOption result (file_at dir.now path.now (map told_of files.now) ≡ None)
         (λ bytes. file_at dir.now path.now (map told_of files.now) ≡ Some bytes.now) }
 {

@@ -7,10 +7,9 @@ use crate::fault::Fault;
 use crate::folder::Folder;
 use crate::folder::walk::walk;
 use std::alloc::Global;
-use std::fs;
-use std::io;
 use std::io::{ErrorKind, Read};
 use std::rt::Files;
+use std::{fs, io};
 
 /// A folder of the file system.
 ///

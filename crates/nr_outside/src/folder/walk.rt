@@ -1,9 +1,8 @@
 // A walk down the folders of the file system.
 use std::alloc::Global;
-use std::fs;
-use std::io;
 use std::io::ErrorKind;
 use std::rt::Files;
+use std::{fs, io};
 
 // How many folders deep a walk goes, the one that it starts at among them.
 const MAX_DEPTH: u8 = 64;

@@ -47,9 +47,17 @@ fn a_folder_in_memory(rt: HostRuntime) -> Result<(), Fail> {
         assert_eq!(rt; bytes.as_slice(), want, "{dir}/{path}, {max}");
     }
     for (dir, path) in [("d", "N.class"), ("e", "M.java"), ("", "d/M.class")] {
-        assert_eq!(rt; folder.read(alloc, dir, path, 9).err(), Some(Fault::Failed), "{dir}/{path}");
+        assert_eq!(rt;
+            folder.read(alloc, dir, path, 9).err(),
+            Some(Fault::Failed),
+            "{dir}/{path}"
+        );
     }
-    let twice = vec![in alloc; file(alloc, "d", "M", &[1])?, file(alloc, "e", "M", &[1])?, file(alloc, "d", "M", &[2])?]?;
+    let twice = vec![in alloc;
+        file(alloc, "d", "M", &[1])?,
+        file(alloc, "e", "M", &[1])?,
+        file(alloc, "d", "M", &[2])?,
+    ]?;
     assert!(rt; !are_each_once(&twice));
     Ok(())
 }
@@ -59,10 +67,19 @@ fn a_sink_in_memory(rt: HostRuntime) -> Result<(), Fail> {
     let alloc = rt.alloc();
     let mut sink = MemSink::new(alloc, vec![in alloc; 2, 5]?);
     let mut answers = Vec::new(alloc);
-    for piece in [[5u8, 6].as_slice(), [7].as_slice(), [].as_slice(), [8].as_slice(), [].as_slice()] {
+    for piece in [
+        [5u8, 6].as_slice(),
+        [7].as_slice(),
+        [].as_slice(),
+        [8].as_slice(),
+        [].as_slice(),
+    ] {
         answers.push(sink.write(piece).is_ok())?;
     }
-    assert_eq!(rt; answers.as_slice(), [true, false, true, true, false].as_slice());
+    assert_eq!(rt;
+        answers.as_slice(),
+        [true, false, true, true, false].as_slice()
+    );
     assert_eq!(rt; sink.bytes(), [5, 6, 8].as_slice());
     Ok(())
 }
@@ -71,7 +88,13 @@ fn a_sink_in_memory(rt: HostRuntime) -> Result<(), Fail> {
 #[test]
 fn a_wire_in_memory(rt: HostRuntime) -> Result<(), Fail> {
     let alloc = rt.alloc();
-    let first = vec![in alloc; Vec::new(alloc), [1u8, 2, 3].to_vec(alloc)?, Vec::new(alloc), Vec::new(alloc), [4].to_vec(alloc)?]?;
+    let first = vec![in alloc;
+        Vec::new(alloc),
+        [1u8, 2, 3].to_vec(alloc)?,
+        Vec::new(alloc),
+        Vec::new(alloc),
+        [4].to_vec(alloc)?,
+    ]?;
     let second = vec![in alloc; Vec::new(alloc)]?;
     let fails = vec![in alloc; 1, 4, 7, 10]?;
     let mut wire = MemWire::new(alloc, vec![in alloc; first, second]?, fails);

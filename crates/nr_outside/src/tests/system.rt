@@ -1,12 +1,11 @@
 // The objects over the system.
 use crate::{Fault, Folder, RealFolder, Sink, StdSink, TcpWire, Wire};
 use std::alloc::{AllocError, Global};
-use std::fs;
-use std::io;
 use std::io::{ErrorKind, Write};
 use std::process::Command;
 use std::rt::Files;
 use std::test::Fail;
+use std::{fs, io};
 
 // A folder for this test alone, with nothing in it.
 fn empty_folder(rt: &(impl Files + Alloc + Clone + Drop), dir: &str) -> Result<(), Fail> {
@@ -56,10 +55,18 @@ fn a_folder_of_the_system(rt: HostRuntime) -> Result<(), Fail> {
         assert_eq!(rt; bytes.as_slice(), want, "{path}, {max}");
     }
     for path in ["N.class", "in", ""] {
-        assert_eq!(rt; folder.read(alloc, "folder_test", path, 9).err(), Some(Fault::Failed), "{path}");
+        assert_eq!(rt;
+            folder.read(alloc, "folder_test", path, 9).err(),
+            Some(Fault::Failed),
+            "{path}"
+        );
     }
     for dir in ["", "folder_test/none", "folder_test/M.class"] {
-        assert_eq!(rt; folder.names(alloc, dir).err(), Some(Fault::Failed), "{dir}");
+        assert_eq!(rt;
+            folder.names(alloc, dir).err(),
+            Some(Fault::Failed),
+            "{dir}"
+        );
     }
     fs::remove_dir_all(&rt, "folder_test")?;
     Ok(())
@@ -75,11 +82,17 @@ fn folders_that_are_faults(rt: HostRuntime) -> Result<(), Fail> {
     assert_eq!(rt; names.len(), 1);
     assert_eq!(rt; names[0].len(), 63 * 2 + 7);
     nest(&rt, alloc, "depth_test", 64)?;
-    assert_eq!(rt; folder.names(alloc, "depth_test").err(), Some(Fault::Failed));
+    assert_eq!(rt;
+        folder.names(alloc, "depth_test").err(),
+        Some(Fault::Failed)
+    );
     assert_eq!(rt; folder.names(alloc, "depth_test/f")?.len(), 2);
     empty_folder(&rt, "name_test")?;
     let script = "touch \"name_test/$(printf 'M\\377.class')\"";
-    let status = Command::new(alloc, "sh")?.arg("-c")?.arg(script)?.status(&rt)?;
+    let status = Command::new(alloc, "sh")?
+        .arg("-c")?
+        .arg(script)?
+        .status(&rt)?;
     assert!(rt; status.success());
     assert_eq!(rt; folder.names(alloc, "name_test").err(), Some(Fault::Failed));
     fs::remove_dir_all(&rt, "depth_test")?;
@@ -91,7 +104,14 @@ fn folders_that_are_faults(rt: HostRuntime) -> Result<(), Fail> {
 fn a_wire_over_tcp(rt: HostRuntime) -> Result<(), Fail> {
     let mut server = TcpWire::new(rt.clone()?);
     let mut client = TcpWire::new(rt.clone()?);
-    for addr in ["", "nowhere", "127.0.0.1", "127.0.0.1:", "127.0.0.1:70000", "127.0.0.1:47132"] {
+    for addr in [
+        "",
+        "nowhere",
+        "127.0.0.1",
+        "127.0.0.1:",
+        "127.0.0.1:70000",
+        "127.0.0.1:47132",
+    ] {
         assert_eq!(rt; client.open(addr), Err(Fault::Failed), "{addr}");
     }
     assert_eq!(rt; server.accept(), Err(Fault::Failed));

@@ -6,7 +6,7 @@ abbrev pub invariant-pieces : goal.invariant-pieces
 invariant-pieces l = record {
   to_come : link_to_come l.self ≡ link_to_come l.fn.self;
   sent : l.self.sent ≡ l.fn.self.sent;
-  given : l.self.given ≡ l.fn.self.given
+  given : l.self.given ≡ l.fn.self.given;
 }
 
 abbrev pub decreases-pieces : goal.decreases-pieces
