@@ -1,4 +1,9 @@
 pub mod Causes
 pub mod Bytes
 pub mod Folder
+pub mod Files
+pub mod MemFolder
 pub mod Wire
+pub mod Link
+pub mod MemWire
+pub mod MemSink

@@ -7,6 +7,15 @@ ghost use Rattle.nr_outside.specs.Folder.{ToldFile, class_paths, file_at, is_eac
 use crate::fault::Fault;
 use std::alloc::Global;
 
+mod files;
+mod mem;
+mod real;
+mod walk;
+
+pub use files::are_each_once;
+pub use mem::MemFolder;
+pub use real::RealFolder;
+
 /// Where class files are listed and read.
 ///
 /// A folder may tell its files, which no call changes. It counts its faults: reads of a path that its told

@@ -3,13 +3,18 @@
 #![tactic(auto)]
 
 mod counted;
+mod fail_plan;
 mod fault;
 mod folder;
 mod sink;
 mod wire;
+mod write_whole;
 
 pub use fault::Fault;
-pub use folder::Folder;
-pub use sink::Sink;
-pub use wire::Wire;
+pub use folder::{Folder, MemFolder, RealFolder, are_each_once};
+pub use sink::{MemSink, Sink, StdSink};
 pub use wire::event::Event;
+pub use wire::{MemWire, TcpWire, Wire};
+
+#[cfg(test)]
+mod tests;

@@ -5,6 +5,12 @@ ghost use Rattle.nr_outside.specs.Bytes.{AddsPart};
 
 use crate::fault::Fault;
 
+mod mem;
+mod standard;
+
+pub use mem::MemSink;
+pub use standard::StdSink;
+
 /// Where text is written. A sink may tell the bytes that it holds, and it counts its faults.
 pub trait Sink {
     /// It tells what it holds.

@@ -8,6 +8,12 @@ ghost use Rattle.nr_outside.specs.declared.wire.event.Event.{Event};
 use crate::fault::Fault;
 
 pub mod event;
+mod link;
+mod mem;
+mod tcp;
+
+pub use mem::MemWire;
+pub use tcp::TcpWire;
 
 /// A way to peers.
 ///

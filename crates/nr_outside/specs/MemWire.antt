@@ -1,0 +1,27 @@
+-- What a wire in memory tells.
+use Rattle.std.specs.Prelude.{ℕ, Bool, List, map}
+use Rattle.std.specs.String.{string_bytes}
+use Rattle.nr_outside.specs.Wire.{Connection, connections}
+use Rattle.nr_outside.specs.Link.{link_to_come, connection_of}
+use Rattle.nr_outside.specs.declared.wire.event.Event.{Event}
+use Rattle.nr_outside.specs.declared.wire.mem.MemWire.{MemWire}
+
+-- whether a connection is open
+abbrev pub mem_wire_opened : MemWire → Bool
+mem_wire_opened w = w.opened
+
+-- the addresses at which it listened or to which it opened, or failed to
+abbrev pub mem_wire_addresses : MemWire → List (List ℕ)
+mem_wire_addresses w = map string_bytes w.addresses.items
+
+-- the connections that were closed
+abbrev pub mem_wire_past : MemWire → List Connection
+mem_wire_past w = map connection_of w.past.items
+
+-- all its connections, the open one last
+abbrev pub mem_wire_connections : MemWire → List Connection
+mem_wire_connections w = connections w.opened (mem_wire_past w) w.live.sent.items w.live.given.items (link_to_come w.live)
+
+-- its events
+abbrev pub mem_wire_events : MemWire → List Event
+mem_wire_events w = w.events.items

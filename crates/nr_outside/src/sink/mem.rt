@@ -1,0 +1,54 @@
+// A sink in memory, some of whose writes fail.
+ghost use Rattle.std.specs.Prelude.{◌≡◌, []};
+
+use crate::counted::failed;
+use crate::fail_plan::FailPlan;
+use crate::fault::Fault;
+use crate::sink::Sink;
+use std::alloc::Global;
+
+/// A sink that holds what is written to it, and tells it. It counts its writes.
+#[derive(Drop)]
+pub struct MemSink {
+    written: Vec<u8>,
+    plan: FailPlan,
+    faults: u64,
+}
+
+impl MemSink {
+    ghost use Rattle.nr_outside.specs.MemSink.{mem_sink_bytes};
+
+    /// An empty sink. `fails` has the numbers, from 1, of the writes that are to fail.
+    pub fn new(alloc: Global, fails: Vec<u64>) -> Self
+        ensures { mem_sink_bytes result ≡ [] }
+    {
+        MemSink {
+            written: Vec::new(alloc),
+            plan: FailPlan::new(fails),
+            faults: 0,
+        }
+    }
+
+    /// What was written.
+    pub fn bytes(&self) -> &[u8]
+        ensures { result.now ≡ mem_sink_bytes self.now }
+    {
+        &self.written
+    }
+}
+
+impl Sink for MemSink {
+    ghost Tells = { Unit {0} };
+
+    ghost bytes = { λ s. s.written.items };
+
+    ghost faults = { λ s. s.faults };
+
+    fn write(&mut self, piece: &[u8]) -> Result<(), Fault> {
+        if self.plan.is_next_to_fail() {
+            return Err(failed(&mut self.faults));
+        }
+        self.written.extend_from_slice(piece)?;
+        Ok(())
+    }
+}

@@ -1,0 +1,229 @@
+// A wire in memory: each connection gives the pieces of a script, and some calls fail.
+ghost use Rattle.std.specs.Prelude.{◌≡◌, ◌<◌, [], true, length, vec_len, vec_capacity, map};
+ghost use Rattle.std.specs.String.{string_bytes};
+ghost use Rattle.nr_outside.specs.Link.{link_to_come, connection_of};
+
+use crate::counted::failed;
+use crate::fail_plan::FailPlan;
+use crate::fault::Fault;
+use crate::wire::Wire;
+use crate::wire::event::Event;
+use crate::wire::link::Link;
+use std::alloc::Global;
+use std::collections::VecDeque;
+use std::mem;
+
+/// A wire that gives scripts, and tells all that it tells of.
+///
+/// An `open` or `accept` that isn't to fail takes the next script, and is `Failed` where none is left. It counts
+/// its calls of `listen`, `accept`, `open`, `send` and `receive`. Its peers may say anything.
+#[derive(Drop)]
+pub struct MemWire {
+    alloc: Global,
+    scripts: VecDeque<Vec<Vec<u8>>>,
+    plan: FailPlan,
+    addresses: Vec<String>,
+    past: Vec<Link>,
+    live: Link,
+    opened: bool,
+    events: Vec<Event>,
+    open_faults: u64,
+    stream_faults: u64,
+    ends: u64,
+    ghost room: { opened ≡ true → vec_len past < vec_capacity past },
+}
+
+impl MemWire {
+    ghost use Rattle.std.specs.Prelude.{◌≡◌, ◌<◌, ◌++◌, ◌∷◌, [], true, false, is_ok, length, vec_len, vec_capacity, map, OnOk, IsErrOf, Some, slice_get};
+    ghost use Rattle.std.specs.String.{string_bytes};
+    ghost use Rattle.nr_outside.specs.Causes.{HasCause};
+    ghost use Rattle.nr_outside.specs.Wire.{OpenIsTold};
+    ghost use Rattle.nr_outside.specs.MemWire.{mem_wire_opened, mem_wire_addresses, mem_wire_past, mem_wire_connections, mem_wire_events};
+
+    /// A wire with nothing open, whose connections give these scripts in turn, each the pieces that it gives; a
+    /// piece with no bytes is skipped. `fails` has the numbers, from 1, of the calls that are to fail.
+    pub fn new(alloc: Global, scripts: Vec<Vec<Vec<u8>>>, fails: Vec<u64>) -> Self
+        ensures opened { mem_wire_opened result ≡ false }
+        ensures addresses { mem_wire_addresses result ≡ [] }
+        ensures past { mem_wire_past result ≡ [] }
+        ensures events { mem_wire_events result ≡ [] }
+    {
+        MemWire {
+            alloc,
+            scripts: VecDeque::from_vec(scripts),
+            plan: FailPlan::new(fails),
+            addresses: Vec::new(alloc),
+            past: Vec::new(alloc),
+            live: Link::new(alloc, VecDeque::new(alloc)),
+            opened: false,
+            events: Vec::new(alloc),
+            open_faults: 0,
+            stream_faults: 0,
+            ends: 0,
+        }
+    }
+
+    /// The addresses at which it listened or to which it opened, or failed to, the first first.
+    pub fn addresses(&self) -> &[String]
+        ensures { map string_bytes result.now ≡ mem_wire_addresses self.now }
+    {
+        &self.addresses
+    }
+
+    /// The events, the first first.
+    pub fn events(&self) -> &[Event]
+        ensures { result.now ≡ mem_wire_events self.now }
+    {
+        &self.events
+    }
+
+    /// How many connections were opened or accepted.
+    pub fn connection_count(&self) -> usize
+        ensures { result ≡ length (mem_wire_connections self.now) }
+    {
+        if self.opened {
+            self.past.len() + 1
+        } else {
+            self.past.len()
+        }
+    }
+
+    /// What was sent on a connection, counted from 0 in the order of opening.
+    pub fn sent(&self, connection: usize) -> &[u8]
+        requires { connection < length (mem_wire_connections self.now) }
+        ensures { slice_get (map (λ c. c.sent) (mem_wire_connections self.now)) connection ≡ Some result.now }
+    {
+        if connection < self.past.len() {
+            &self.past[connection].sent
+        } else {
+            &self.live.sent
+        }
+    }
+
+    // Opens a connection that gives the next script.
+    fn connect(&mut self) -> Result<(), Fault>
+        requires closed { self.old.opened ≡ false }
+        requires past_room { vec_len self.old.past < vec_capacity self.old.past }
+        requires event_room { vec_len self.old.events < vec_capacity self.old.events }
+        ensures opened { self.new.opened ≡ is_ok result }
+        ensures memory { IsErrOf result Fault.NoMemory → ⊥ }
+        ensures sent { OnOk result (self.new.live.sent.items ≡ []) }
+        ensures given { OnOk result (self.new.live.given.items ≡ []) }
+        ensures events { OpenIsTold self.old.events.items self.new.events.items result }
+        ensures past { self.new.past.items ≡ self.old.past.items }
+        ensures addresses { self.new.addresses ≡ self.old.addresses }
+        ensures cause { HasCause self.old.open_faults self.new.open_faults result }
+        ensures stream_faults { self.new.stream_faults ≡ self.old.stream_faults }
+        ensures ends { self.new.ends ≡ self.old.ends }
+    {
+        match self.scripts.pop_front() {
+            Some(script) => {
+                self.live = Link::new(self.alloc, VecDeque::from_vec(script));
+                self.opened = true;
+                self.events.push(Event::Opened).unwrap();
+                Ok(())
+            }
+            None => Err(failed(&mut self.open_faults)),
+        }
+    }
+}
+
+impl Wire for MemWire {
+    ghost Tells = { Unit {0} };
+
+    ghost TellsOrder = { Unit {0} };
+
+    ghost Honest = { Unit {0} };
+
+    ghost says = { λ _ _ _. Unit {0} };
+
+    ghost opened = { λ w. w.opened };
+
+    ghost addresses = { λ w. map string_bytes w.addresses.items };
+
+    ghost past = { λ w. map connection_of w.past.items };
+
+    ghost sent = { λ w. w.live.sent.items };
+
+    ghost given = { λ w. w.live.given.items };
+
+    ghost to_come = { λ w. link_to_come w.live };
+
+    ghost order = { λ w. w.events.items };
+
+    ghost open_faults = { λ w. w.open_faults };
+
+    ghost stream_faults = { λ w. w.stream_faults };
+
+    ghost ends = { λ w. w.ends };
+
+    fn is_open(&self) -> bool {
+        self.opened
+    }
+
+    fn listen(&mut self, addr: &str) -> Result<(), Fault> {
+        let fails = self.plan.is_next_to_fail();
+        self.addresses.push(String::from_str(self.alloc, addr)?)?;
+        if fails {
+            return Err(failed(&mut self.open_faults));
+        }
+        Ok(())
+    }
+
+    fn accept(&mut self) -> Result<(), Fault> {
+        if self.plan.is_next_to_fail() {
+            return Err(failed(&mut self.open_faults));
+        }
+        self.past.reserve(1)?;
+        self.events.reserve(1)?;
+        self.connect()
+    }
+
+    fn open(&mut self, addr: &str) -> Result<(), Fault> {
+        let fails = self.plan.is_next_to_fail();
+        let addr = String::from_str(self.alloc, addr)?;
+        self.past.reserve(1)?;
+        self.events.reserve(1)?;
+        self.addresses.push(addr)?;
+        if fails {
+            return Err(failed(&mut self.open_faults));
+        }
+        self.connect()
+    }
+
+    fn send(&mut self, piece: &[u8]) -> Result<(), Fault> {
+        let fails = self.plan.is_next_to_fail();
+        self.events.reserve(1)?;
+        if fails {
+            self.events.push(Event::SendFailed(0)).unwrap();
+            return Err(failed(&mut self.stream_faults));
+        }
+        self.live.sent.extend_from_slice(piece)?;
+        self.events.push(Event::Sent(piece.len())).unwrap();
+        Ok(())
+    }
+
+    fn receive(&mut self, into: &mut [u8]) -> Result<usize, Fault> {
+        let fails = self.plan.is_next_to_fail();
+        self.events.reserve(1)?;
+        if fails {
+            self.events.push(Event::ReceiveFailed).unwrap();
+            return Err(failed(&mut self.stream_faults));
+        }
+        let count = self.live.receive(into)?;
+        if count == 0 {
+            self.ends = self.ends.saturating_add(1);
+        }
+        self.events.push(Event::Received(count)).unwrap();
+        Ok(count)
+    }
+
+    fn close(&mut self) {
+        if self.opened {
+            let fresh = Link::new(self.alloc, VecDeque::new(self.alloc));
+            let link = mem::replace(&mut self.live, fresh);
+            self.opened = false;
+            self.past.push(link).unwrap();
+        }
+    }
+}
