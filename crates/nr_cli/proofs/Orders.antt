@@ -1,5 +1,5 @@
 -- The paths in byte order are one list, whatever order they were told in.
-use Rattle.std.proofs.Common.{◌≡◌, ◌≢◌, ℕ, zero, suc, ◌+◌, ◌≤◌, ◌<◌, Bool, true, false, cond, List, [], ◌∷◌, length, get_or, refl, sym, ap, subst, ◌∙◌, arith, inl, inr, ◌⊎◌}
+use Rattle.std.proofs.Common.{◌≡◌, ◌≢◌, ℕ, zero, suc, ◌+◌, ◌≤◌, ◌<◌, Bool, true, false, cond, List, [], ◌∷◌, length, map, get_or, refl, sym, ap, subst, ◌∙◌, arith, inl, inr, ◌⊎◌}
 use Rattle.std.specs.Prelude.{sum_by, IsPermutation}
 use Rattle.std.specs.Cmp.{IsStrictWeakOrder, IsTotalOrder}
 use Rattle.std.specs.Cmp.Lexicographic.{slice_cmp, nat_list_cmp_total}
@@ -8,9 +8,12 @@ use Rattle.std.specs.Ordering.{nat_cmp, is_lt, ordering_reverse}
 use Rattle.std.specs.declared.cmp.Ordering.{Ordering}
 use Rattle.std.specs.declared.cmp.Ordering.TheVariants.{Less, Equal, Greater}
 use Rattle.std.specs.FinSet.{nat_cmp-IsAntisymmetric, slice_cmp-IsAntisymmetric}
-use Rattle.std.specs.Str.{bytes_eq}
+use Rattle.std.specs.String.{string_bytes, string_cmp}
+use Rattle.std.specs.declared.alloc.Global.{Global}
+use Rattle.std.specs.declared.string.String.{String}
+use Rattle.std.proofs.lemmas.List.{get_or-map, length-map}
 use Rattle.std.proofs.lemmas.List.Sums.{sum_by-cons}
-use Rattle.std.proofs.lemmas.List.Sorted.{ranks_by, sorted_far, sum_by-IsPermutation}
+use Rattle.std.proofs.lemmas.List.Sorted.{IsPermutation-map, ranks_by, sorted_far, sum_by-IsPermutation}
 use Rattle.nr_cli.specs.Order.{put_path, in_byte_order}
 
 abbrev below : List ℕ → List ℕ → Bool
@@ -140,3 +143,18 @@ pub sorted_paths : (told listed sorted : List (List ℕ)) → IsPermutation told
 sorted_paths told listed sorted p q s =
     same sorted (in_byte_order told) (sorted_ascends sorted s) (Ascends-in_byte_order told)
     (λ f. sym (total_is f sorted) ∙ sum_by-IsPermutation f listed sorted q ∙ sum_by-IsPermutation f told listed p ∙ total_is f told ∙ sym (total-in_byte_order f told))
+
+-- ---- names as the program holds them
+
+below_at : (d : String Global) (xs : List (String Global)) → IsSorted string_cmp xs → (k : ℕ) (e : List ℕ) → k + 1 < length xs → below (get_or (map string_bytes xs) (k + 1) e) (get_or (map string_bytes xs) k e) ≡ false
+below_at d xs s k e lt =
+    rw (get_or-map string_bytes xs (k + 1) d e lt, get_or-map string_bytes xs k d e (omega arith)) (s k d (omega arith) lt)
+
+bytes_sorted : (xs : List (String Global)) → IsSorted string_cmp xs → IsSorted (slice_cmp nat_cmp) (map string_bytes xs)
+bytes_sorted [] s = λ k d low lt. absurd (omega arith)
+bytes_sorted (x ∷ xs) s = λ k d low lt. below_at x (x ∷ xs) s k d (omega (arith, length-map (x ∷ xs) string_bytes))
+
+-- what sorting the names of a folder gives
+pub sorted_names : (told : List (List ℕ)) (names sorted : List (String Global)) → IsPermutation told (map string_bytes names) → IsPermutation names sorted → IsSorted string_cmp sorted → map string_bytes sorted ≡ in_byte_order told
+sorted_names told names sorted p q s =
+    sorted_paths told (map string_bytes names) (map string_bytes sorted) p (IsPermutation-map string_bytes names sorted q) (bytes_sorted sorted s)

@@ -2,7 +2,7 @@
 use Rattle.std.specs.Prelude.{ℕ, ◌+◌, ◌/◌, ◌%◌, ◌&&◌, List, [], ◌∷◌, ◌++◌, flat_map, codes, cond, nat_le, nat_lt}
 use Rattle.std.specs.Fmt.{decimal}
 use Rattle.nr_cli.specs.declared.ending.LoadFault.{LoadFault}
-use Rattle.nr_cli.specs.declared.ending.LoadFault.TheVariants.{OutOfThinForm, FileTooLong, FolderTooLong}
+use Rattle.nr_cli.specs.declared.ending.LoadFault.TheVariants.{OutOfThinForm, FileTooLong}
 
 -- a capital hexadecimal digit
 abbrev pub hex_digit : ℕ → ℕ
@@ -19,4 +19,3 @@ spelled name = flat_map spelled_byte name
 abbrev pub spelled_fault : LoadFault → List ℕ
 spelled_fault (OutOfThinForm at) = codes "OutOfThinForm " ++ decimal at
 spelled_fault FileTooLong = codes "FileTooLong"
-spelled_fault FolderTooLong = codes "FolderTooLong"

@@ -8,8 +8,6 @@ pub enum LoadFault {
     OutOfThinForm(u32),
     /// The file has more than 1,048,576 bytes.
     FileTooLong,
-    /// The folder's class files have more than 67,108,864 bytes.
-    FolderTooLong,
 }
 
 /// How the program ends.

@@ -2,7 +2,13 @@
 #![tactic(auto)]
 
 mod ending;
+mod load;
 mod machine;
+mod plan;
+mod report;
 mod spelling;
 mod thin;
+mod top;
 mod words;
+
+pub use top::nrmi;

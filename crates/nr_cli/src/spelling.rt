@@ -49,7 +49,6 @@ fn put_fault(alloc: Global, text: &mut Put, fault: LoadFault) -> Result<(), Allo
     match fault {
         LoadFault::OutOfThinForm(at) => text.bytes(format!(in alloc; "OutOfThinForm {at}")?.as_bytes()),
         LoadFault::FileTooLong => text.bytes(b"FileTooLong"),
-        LoadFault::FolderTooLong => text.bytes(b"FolderTooLong"),
     }
 }
 

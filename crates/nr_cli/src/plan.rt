@@ -1,0 +1,96 @@
+//! Does what the words say, as far as the folder goes.
+ghost use Rattle.std.specs.Prelude.{◌≡◌, ◌⊎◌, ◌≤◌, true, Some, None, map};
+ghost use Rattle.std.specs.String.{string_bytes};
+ghost use Rattle.nr_outside.specs.Causes.{Rose};
+ghost use Rattle.nr_cli.specs.Thin.{fits};
+ghost use Rattle.nr_cli.specs.Words.{told, command_of};
+ghost use Rattle.nr_cli.specs.Plan.{run_class, of_paths, of_command, end_of, are_listed};
+
+use crate::ending::End;
+use crate::load::{load_class, refuse_second, sorted_names};
+use crate::machine::{Outcome, run};
+use crate::thin::class::ThinClass;
+use crate::words::{RunCommand, read_words};
+use nr_base::Items;
+use nr_outside::{Fault, Folder};
+use std::alloc::Global;
+
+// The end where no class has the name of the command.
+fn no_class(alloc: Global, command: &RunCommand<'_>) -> End
+    ensures { (result ≡ End.Memory) ⊎ (result ≡ End.NoClass command.now.main) }
+{
+    match Items::of(alloc, command.main.as_slice()) {
+        Ok(name) => End::NoClass(name),
+        Err(_) => End::Memory,
+    }
+}
+
+// Runs a class, where it has the name of the command.
+fn end_of_class(alloc: Global, command: &RunCommand<'_>, class: &ThinClass) -> End
+    requires { fits class.now.max_stack 0 class.now.code ≡ true }
+    ensures words { result ≡ End.Words → ⊥ }
+    ensures end { (result ≡ End.Memory) ⊎ (result ≡ run_class (told command.now) class.now) }
+{
+    if class.name.as_slice() != command.main.as_slice() {
+        return no_class(alloc, command);
+    }
+    match run(alloc, class.max_stack, class.code.as_slice(), command.budget) {
+        Ok(Outcome::Returned(value)) => End::Returned(value),
+        Ok(Outcome::BudgetSpent) => End::Budget(command.budget),
+        Err(_) => End::Memory,
+    }
+}
+
+// The end over the class files at these paths.
+fn end_of_paths<F: Folder>(alloc: Global, command: &RunCommand<'_>, folder: &mut F, paths: &[String]) -> End
+    ensures files { F.Tells → F.files folder.new ≡ F.files folder.old }
+    ensures end { F.Tells → (result ≡ End.Memory) ⊎ (result ≡ End.Folder)
+        ⊎ (result ≡ of_paths (told command.now) (F.files folder.old) (map string_bytes paths.now)) }
+    ensures words { result ≡ End.Words → ⊥ }
+    ensures faults { F.faults folder.old ≤ F.faults folder.new }
+    ensures cause { (F.Tells → are_listed command.now.dir.now (F.files folder.old) (map string_bytes paths.now) ≡ true)
+        → result ≡ End.Folder → Rose (F.faults folder.old) (F.faults folder.new) }
+{
+    match paths {
+        [] => no_class(alloc, command),
+        [path] => match load_class(alloc, folder, command.dir, path) {
+            Ok(class) => end_of_class(alloc, command, &class),
+            Err(end) => end,
+        },
+        [path, second, ..] => match load_class(alloc, folder, command.dir, path) {
+            Ok(_) => refuse_second(alloc, folder, command.dir, second),
+            Err(end) => end,
+        },
+    }
+}
+
+// The end over the class files of the command's folder.
+fn end_of_command<F: Folder>(alloc: Global, command: &RunCommand<'_>, folder: &mut F) -> End
+    ensures files { F.Tells → F.files folder.new ≡ F.files folder.old }
+    ensures end { F.Tells → (result ≡ End.Memory) ⊎ (result ≡ End.Folder)
+        ⊎ (result ≡ of_command (Some (told command.now)) (F.files folder.old)) }
+    ensures words { result ≡ End.Words → ⊥ }
+    ensures cause { result ≡ End.Folder → Rose (F.faults folder.old) (F.faults folder.new) }
+{
+    match sorted_names(alloc, folder, command.dir) {
+        Ok(paths) => end_of_paths(alloc, command, folder, &paths),
+        Err(Fault::Failed) => End::Folder,
+        Err(Fault::NoMemory) => End::Memory,
+    }
+}
+
+/// The end of the program that is given these words over this folder.
+pub fn plan<F: Folder>(alloc: Global, words: &[&str], folder: &mut F) -> End
+    ensures files { F.Tells → F.files folder.new ≡ F.files folder.old }
+    ensures end { F.Tells → (result ≡ End.Memory) ⊎ (result ≡ End.Folder)
+        ⊎ (result ≡ end_of (map (λ w. w.now) words.now) (F.files folder.old)) }
+    ensures words { (result ≡ End.Words) → command_of (map (λ w. w.now) words.now) ≡ None }
+    ensures no_words { command_of (map (λ w. w.now) words.now) ≡ None → (result ≡ End.Words) ⊎ (result ≡ End.Memory) }
+    ensures cause { result ≡ End.Folder → Rose (F.faults folder.old) (F.faults folder.new) }
+{
+    match read_words(alloc, words) {
+        Ok(Some(command)) => end_of_command(alloc, &command, folder),
+        Ok(None) => End::Words,
+        Err(_) => End::Memory,
+    }
+}

@@ -1,0 +1,58 @@
+//! The top call.
+ghost use Rattle.std.specs.Prelude.{◌≡◌, ◌⊎◌, ◌++◌, false, None, map, codes, ℤ};
+ghost use Rattle.nr_outside.specs.Causes.{Rose};
+ghost use Rattle.nr_outside.specs.Bytes.{AddsPart};
+ghost use Rattle.nr_cli.specs.Words.{command_of};
+ghost use Rattle.nr_cli.specs.Ending.{line, status_of, out_of, err_of};
+ghost use Rattle.nr_cli.specs.Plan.{end_of};
+
+use crate::ending::End;
+use crate::plan::plan;
+use crate::report::end_with;
+use nr_outside::{Folder, Sink, Wire};
+use std::alloc::Global;
+
+/// Does what the words after the program's name say, and gives the status of the process.
+///
+/// `run DIR MAIN BUDGET` and then 0 to 1,000 words INT runs the class MAIN of the folder DIR for at most BUDGET
+/// steps. Other words are refused. The status is 0 where `main` returned, 2 where the words fit no command, 3
+/// where the folder failed, 4 where a class file is refused, 5 where there is no class MAIN, 9 where the run made
+/// BUDGET steps without an end, 11 where a sink failed and 12 where memory ran out.
+pub fn nrmi<F: Folder, W: Wire, O: Sink, E: Sink>(
+    alloc: Global,
+    words: &[&str],
+    folder: &mut F,
+    wire: &mut W,
+    out: &mut O,
+    err: &mut E,
+) -> u8
+    requires { W.opened wire.old ≡ false }
+    ensures wire { wire.new ≡ wire.old }
+    ensures files { F.Tells → F.files folder.new ≡ F.files folder.old }
+
+    // The status, and when each one that isn't that of the end comes.
+    ensures status { F.Tells → (result ≡ 3) ⊎ (result ≡ 11) ⊎ (result ≡ 12)
+        ⊎ (result ≡ status_of (end_of (map (λ w. w.now) words.now) (F.files folder.old))) }
+    ensures words { result ≡ 2 → command_of (map (λ w. w.now) words.now) ≡ None }
+    ensures no_words { command_of (map (λ w. w.now) words.now) ≡ None → (result ≡ 2) ⊎ (result ≡ 11) ⊎ (result ≡ 12) }
+    ensures folder { result ≡ 3 → Rose (F.faults folder.old) (F.faults folder.new) }
+    ensures sink { result ≡ 11 → Rose (O.faults out.old) (O.faults out.new) ⊎ Rose (E.faults err.old) (E.faults err.new) }
+
+    // What is written.
+    ensures out { F.Tells → O.Tells → (result ≡ 3 → ⊥) → (result ≡ 11 → ⊥) → (result ≡ 12 → ⊥)
+        → O.bytes out.new ≡ O.bytes out.old ++ out_of (end_of (map (λ w. w.now) words.now) (F.files folder.old)) }
+    ensures part { F.Tells → O.Tells → AddsPart (O.bytes out.old) (O.bytes out.new) (out_of (end_of (map (λ w. w.now) words.now) (F.files folder.old))) }
+    ensures err { F.Tells → E.Tells → (result ≡ 3 → ⊥) → (result ≡ 11 → ⊥) → (result ≡ 12 → ⊥)
+        → E.bytes err.new ≡ E.bytes err.old ++ err_of (end_of (map (λ w. w.now) words.now) (F.files folder.old)) }
+    ensures folder_line { E.Tells → result ≡ 3 → E.bytes err.new ≡ E.bytes err.old ++ line (codes "folder") }
+    ensures sink_line { E.Tells → result ≡ 11 → (Rose (E.faults err.old) (E.faults err.new) → ⊥)
+        → E.bytes err.new ≡ E.bytes err.old ++ line (codes "sink") }
+
+    // Where `main` returns and nothing of the outside fails, so it is said, unless memory runs out.
+    ensures returns { (n : ℤ) → F.Tells → end_of (map (λ w. w.now) words.now) (F.files folder.old) ≡ End.Returned n
+        → (Rose (F.faults folder.old) (F.faults folder.new) → ⊥) → (Rose (O.faults out.old) (O.faults out.new) → ⊥)
+        → (Rose (E.faults err.old) (E.faults err.new) → ⊥) → (result ≡ 0) ⊎ (result ≡ 12) }
+{
+    let end = plan(alloc, words, folder);
+    end_with(alloc, &end, out, err)
+}
