@@ -1,5 +1,5 @@
 -- The first bytes of a file tell whether it is too long, and else they are the file.
-use Rattle.std.proofs.Common.{◌≡◌, ◌⊎◌, ℕ, ◌≤◌, ◌<◌, Bool, cond, List, length, take, Option, None, Some, Result, Ok, Err, Vec, refl, sym, ap, ◌∙◌, arith, inl, inr, leb}
+use Rattle.std.proofs.Common.{◌≡◌, ◌⊎◌, ℕ, ◌<◌, cond, List, length, take, Option, None, Some, Result, Ok, Err, Vec, refl, ap, ◌∙◌, arith, inl, inr, leb}
 use Rattle.std.specs.declared.alloc.Global.{Global}
 use Rattle.std.proofs.lemmas.Bool.{cases_lt, lt-leb}
 use Rattle.std.proofs.lemmas.List.{take_all, length-take}

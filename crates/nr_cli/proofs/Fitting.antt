@@ -1,14 +1,13 @@
 -- The code that is read has its operands, so a run of it is never stuck.
-use Rattle.std.proofs.Common.{◌≡◌, ℕ, zero, suc, ◌+◌, ◌-◌, ◌≤◌, ◌<◌, ◌==◌, Bool, true, false, cond, List, [], ◌∷◌, ◌++◌, length, Option, None, Some, Result, Ok, Err, refl, sym, ap, subst, ◌∙◌, append_assoc, arith}
+use Rattle.std.proofs.Common.{◌≡◌, ℕ, zero, suc, ◌+◌, ◌-◌, ◌≤◌, ◌<◌, true, List, [], ◌∷◌, ◌++◌, length, Option, None, Some, Ok, refl, sym, ap, subst, ◌∙◌, append_assoc, arith}
 use Rattle.std.specs.Prelude.{is_some}
-use Rattle.std.proofs.lemmas.Bool.{eq-eqb, ne_eqb}
+use Rattle.std.proofs.lemmas.Bool.{ne_eqb}
 use Rattle.std.proofs.lemmas.List.{append-nil, length-append}
 use Rattle.nr_base.specs.Place.{Place, at_of}
-use Rattle.nr_base.specs.Reader.{times, bind, pure, refuse, from, with_fault}
+use Rattle.nr_base.specs.Reader.{times, bind, pure, refuse, from}
 use Rattle.nr_base.proofs.Laws.{bind_ok, ok_is}
 use Rattle.nr_base.proofs.Loops.{is_done}
-use Rattle.nr_cli.specs.declared.thin.fault.ThinFault.{ThinFault}
-use Rattle.nr_cli.specs.Thin.{Code, Read, height_next, height_at_end, height_after, goes_on, fits, instruction_at, u1, added}
+use Rattle.nr_cli.specs.Thin.{Code, height_next, height_after, fits, instruction_at, u1, added}
 
 -- one instruction that was read
 record Next (max len : ℕ) (s t : Code) : Type 0 where

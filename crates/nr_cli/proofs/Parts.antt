@@ -1,5 +1,5 @@
 -- A part of what an end of the program says.
-use Rattle.std.proofs.Common.{◌≡◌, ◌⊎◌, ◌++◌, List, ℕ, [], take, ap, ◌∙◌, subst, arith, inl, inr}
+use Rattle.std.proofs.Common.{◌≡◌, ◌⊎◌, ◌++◌, List, ℕ, [], ap, ◌∙◌, subst, arith, inl, inr}
 use Rattle.std.proofs.lemmas.List.{take_all}
 use Rattle.nr_outside.specs.Bytes.{AddsPart}
 use Rattle.nr_cli.specs.Ending.{out_of}

@@ -4,7 +4,6 @@ use Rattle.std.specs.Prelude.{ℕ, zero, suc, ◌+◌, ◌-◌, ◌&&◌, ◌||�
 use Rattle.std.specs.Int.{w8, w16, w32}
 use Rattle.std.specs.List.{starts_with}
 use Rattle.std.specs.Str.{bytes_eq}
-use Rattle.nr_base.specs.Place.{Place}
 use Rattle.nr_base.specs.Reader.{Reader, ◌>>=◌, pure, refuse, choose, from, with_fault, times, onto, whole}
 use Rattle.nr_base.specs.Bytes.{number_at, run_at}
 use Rattle.nr_base.specs.declared.cur.Short.{Short}

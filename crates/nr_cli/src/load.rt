@@ -19,7 +19,11 @@ use std::alloc::Global;
 const MAX_FILE: usize = 1_048_576;
 
 /// The paths of the folder's class files, in byte order.
-pub fn sorted_names<F: Folder>(alloc: Global, folder: &mut F, dir: &str) -> Result<Vec<String>, Fault>
+pub fn sorted_names<F: Folder>(
+    alloc: Global,
+    folder: &mut F,
+    dir: &str,
+) -> Result<Vec<String>, Fault>
     ensures files { F.Tells → F.files folder.new ≡ F.files folder.old }
     ensures names { F.Tells → IfOk result (λ names. map string_bytes names.items ≡ in_byte_order (class_paths dir.now (F.files folder.old))) }
     ensures cause { HasCause (F.faults folder.old) (F.faults folder.new) result }

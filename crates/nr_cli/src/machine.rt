@@ -15,6 +15,7 @@ pub enum Outcome {
 }
 
 const IADD: u8 = 96;
+
 const IRETURN: u8 = 172;
 
 // Adds the two values on top.

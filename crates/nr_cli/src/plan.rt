@@ -34,7 +34,12 @@ fn end_of_class(alloc: Global, command: &RunCommand<'_>, class: &ThinClass) -> E
     if class.name.as_slice() != command.main.as_slice() {
         return no_class(alloc, command);
     }
-    match run(alloc, class.max_stack, class.code.as_slice(), command.budget) {
+    match run(
+        alloc,
+        class.max_stack,
+        class.code.as_slice(),
+        command.budget,
+    ) {
         Ok(Outcome::Returned(value)) => End::Returned(value),
         Ok(Outcome::BudgetSpent) => End::Budget(command.budget),
         Err(_) => End::Memory,
@@ -42,7 +47,12 @@ fn end_of_class(alloc: Global, command: &RunCommand<'_>, class: &ThinClass) -> E
 }
 
 // The end over the class files at these paths.
-fn end_of_paths<F: Folder>(alloc: Global, command: &RunCommand<'_>, folder: &mut F, paths: &[String]) -> End
+fn end_of_paths<F: Folder>(
+    alloc: Global,
+    command: &RunCommand<'_>,
+    folder: &mut F,
+    paths: &[String],
+) -> End
     ensures files { F.Tells → F.files folder.new ≡ F.files folder.old }
     ensures end { F.Tells → (result ≡ End.Memory) ⊎ (result ≡ End.Folder)
         ⊎ (result ≡ of_paths (told command.now) (F.files folder.old) (map string_bytes paths.now)) }

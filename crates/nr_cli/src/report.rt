@@ -10,6 +10,7 @@ use nr_outside::{Fault, Sink};
 use std::alloc::Global;
 
 const SINK_FAILED: u8 = 11;
+
 const NO_MEMORY: u8 = 12;
 
 // Writes the text, if there is any.

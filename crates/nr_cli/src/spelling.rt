@@ -20,7 +20,11 @@ fn digit(value: u8) -> u8
     requires { value < 16 }
     ensures { result ≡ hex_digit value }
 {
-    if value < 10 { b'0' + value } else { b'A' - 10 + value }
+    if value < 10 {
+        b'0' + value
+    } else {
+        b'A' - 10 + value
+    }
 }
 
 // A byte of a name.
@@ -47,7 +51,9 @@ fn put_fault(alloc: Global, text: &mut Put, fault: LoadFault) -> Result<(), Allo
     ensures { OnOk result (text.new ≡ text.old ++ spelled_fault fault) }
 {
     match fault {
-        LoadFault::OutOfThinForm(at) => text.bytes(format!(in alloc; "OutOfThinForm {at}")?.as_bytes()),
+        LoadFault::OutOfThinForm(at) => text.bytes(format!(in alloc;
+            "OutOfThinForm {at}"
+        )?.as_bytes()),
         LoadFault::FileTooLong => text.bytes(b"FileTooLong"),
     }
 }

@@ -156,7 +156,10 @@ fn read_class_name(alloc: Global, word: &str) -> Result<Option<Items<u8>>, Alloc
 }
 
 /// The command that the words after the program's name give, or none where they fit no row of the word table.
-pub fn read_words<'a>(alloc: Global, words: &[&'a str]) -> Result<Option<RunCommand<'a>>, AllocError>
+pub fn read_words<'a>(
+    alloc: Global,
+    words: &[&'a str],
+) -> Result<Option<RunCommand<'a>>, AllocError>
     ensures { IfOk result (λ o. option_map told o ≡ command_of (map (λ w. w.now) words.now)) }
 {
     let [run, dir, main, budget, ints @ ..] = words else {

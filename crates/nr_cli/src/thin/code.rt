@@ -72,7 +72,12 @@ fn instruction(
 
 // The instructions, and the height of the operand stack at their end.
 #[tactic(auto, using(nr_base::proofs::Loops::goes_on, nr_base::proofs::Loops::is_done, crate::proofs::Exits::fails_in))]
-fn instructions(alloc: Global, cur: &mut Cur, max: u16, len: u32) -> Result<(Items<u8>, usize), ThinFault>
+fn instructions(
+    alloc: Global,
+    cur: &mut Cur,
+    max: u16,
+    len: u32,
+) -> Result<(Items<u8>, usize), ThinFault>
     ensures code { Gives is_memory result cur.new (times (instruction_at max len) len ([], 0) cur.old) }
     ensures fits { 0 < len → IfOk result (λ c. fits max 0 c.0 ≡ true) }
 {
@@ -139,7 +144,11 @@ fn code_len(cur: &mut Cur, size: u32) -> Result<u32, ThinFault>
 
 /// The method: the height of its stack, and its code.
 #[tactic(auto, unfolding(crate::specs::Thin::method_at, nr_base::specs::Reader::bind, nr_base::specs::Reader::pure, nr_base::specs::Reader::refuse, nr_base::specs::Reader::choose, nr_base::specs::Reader::from, nr_base::specs::Reader::with_fault))]
-pub fn read_method(alloc: Global, cur: &mut Cur, pool: &[Entry]) -> Result<(u16, Items<u8>), ThinFault>
+pub fn read_method(
+    alloc: Global,
+    cur: &mut Cur,
+    pool: &[Entry],
+) -> Result<(u16, Items<u8>), ThinFault>
     ensures method { Gives is_memory result cur.new (method_at pool.now cur.old) }
     ensures fits { IfOk result (λ m. fits m.0 0 m.1 ≡ true) }
 {

@@ -68,7 +68,8 @@ fn class_flags(cur: &mut Cur) -> Result<u16, ThinFault>
 fn is_own(name: &[u8]) -> bool
     ensures { result ≡ is_own_name (Some name.now) }
 {
-    is_segmented(name) && !(name.starts_with(b"java/".as_slice()) || name.starts_with(b"nrmi/".as_slice()))
+    is_segmented(name)
+        && !(name.starts_with(b"java/".as_slice()) || name.starts_with(b"nrmi/".as_slice()))
 }
 
 // A place of the pool that names the class of the file.

@@ -1,6 +1,3 @@
-use Rattle.std.proofs.Common.{◌≡◌, true, map}
-use Rattle.std.specs.String.{string_bytes}
-use Rattle.nr_cli.specs.Plan.{are_listed}
 use Rattle.nr_cli.proofs.Counts.{rose_before}
 use Rattle.nr_cli.proofs.Listed.{sorted_paths}
 use Rattle.nr_cli.proofs.plan.end_of_command.Goals as goal

@@ -1,0 +1,3 @@
+//! Runs of the top call.
+mod run;
+mod scene;
