@@ -16,21 +16,23 @@ pub const M_CLASS: [u8; 105] = [
 
 /// The numbers, from 1, of the calls that fail.
 #[derive(Clone, Copy)]
-pub struct Failing<'a> {
+pub struct Scene<'a> {
     pub folder: &'a [u64],
     pub out: &'a [u64],
     pub err: &'a [u64],
 }
 
-/// Nothing fails.
-pub const SOUND: Failing<'static> = Failing {
-    folder: &[],
-    out: &[],
-    err: &[],
-};
+impl Scene<'static> {
+    /// Nothing fails.
+    pub const SOUND: Scene<'static> = Scene {
+        folder: &[],
+        out: &[],
+        err: &[],
+    };
+}
 
 /// What a run leaves.
-#[derive(Debug, PartialEq, Eq, Drop)]
+#[derive(Drop)]
 pub struct Outcome {
     pub status: u8,
     pub out: Vec<u8>,
@@ -42,7 +44,7 @@ pub fn run_over<R: AllocGlobal + Abort>(
     rt: &R,
     words: &[&str],
     files: &[(&str, &[u8])],
-    failing: Failing<'_>,
+    scene: Scene<'_>,
 ) -> Result<Outcome, Fail> {
     let alloc: Global = rt.alloc();
     let mut listed = Vec::new(alloc);
@@ -54,10 +56,10 @@ pub fn run_over<R: AllocGlobal + Abort>(
         ))?;
     }
     assert!(rt; are_each_once(&listed));
-    let mut folder = MemFolder::new(listed, failing.folder.to_vec(alloc)?);
+    let mut folder = MemFolder::new(listed, scene.folder.to_vec(alloc)?);
     let mut wire = MemWire::new(alloc, Vec::new(alloc), Vec::new(alloc));
-    let mut out = MemSink::new(alloc, failing.out.to_vec(alloc)?);
-    let mut err = MemSink::new(alloc, failing.err.to_vec(alloc)?);
+    let mut out = MemSink::new(alloc, scene.out.to_vec(alloc)?);
+    let mut err = MemSink::new(alloc, scene.err.to_vec(alloc)?);
     let status = nrmi(alloc, words, &mut folder, &mut wire, &mut out, &mut err);
     Ok(Outcome {
         status,
