@@ -34,10 +34,11 @@ pub struct MemWire {
 }
 
 impl MemWire {
-    ghost use Rattle.std.specs.Prelude.{◌≡◌, ◌<◌, ◌++◌, ◌∷◌, [], true, false, is_ok, length, vec_len, vec_capacity, map, OnOk, IsErrOf, Some, slice_get};
+    ghost use Rattle.std.specs.Prelude.{◌≡◌, ◌<◌, ◌++◌, ◌∷◌, [], true, false, is_ok, length, vec_len, vec_capacity, map, OnOk, OnErr, IsErrOf, Some, slice_get};
     ghost use Rattle.std.specs.String.{string_bytes};
     ghost use Rattle.nr_outside.specs.Causes.{HasCause};
     ghost use Rattle.nr_outside.specs.Wire.{OpenIsTold};
+    ghost use Rattle.nr_outside.specs.Link.{link_to_come, script_bytes};
     ghost use Rattle.nr_outside.specs.MemWire.{mem_wire_opened, mem_wire_addresses, mem_wire_past, mem_wire_connections, mem_wire_events};
 
     /// A wire with nothing open, whose connections give these scripts in turn, each the pieces that it gives; a
@@ -107,6 +108,8 @@ impl MemWire {
         requires event_room { vec_len self.old.events < vec_capacity self.old.events }
         ensures opened { self.new.opened ≡ is_ok result }
         ensures memory { IsErrOf result Fault.NoMemory → ⊥ }
+        ensures script { OnOk result (map script_bytes self.old.scripts.items ≡ link_to_come self.new.live ∷ map script_bytes self.new.scripts.items) }
+        ensures none { OnErr result (self.old.scripts.items ≡ []) }
         ensures sent { OnOk result (self.new.live.sent.items ≡ []) }
         ensures given { OnOk result (self.new.live.given.items ≡ []) }
         ensures events { OpenIsTold self.old.events.items self.new.events.items result }
