@@ -1,7 +1,6 @@
 // A sink over a writer of the system's. It tells nothing.
-ghost use Rattle.std.specs.Prelude.{◌≡◌, ◌++◌, [], OnOk};
+ghost use Rattle.std.specs.Prelude.{[], OnOk};
 ghost use Rattle.std.specs.Io.KnownBytes.{Keeps, Appends};
-ghost use Rattle.nr_outside.specs.Bytes.{AddsPart};
 ghost use Rattle.nr_outside.specs.Causes.{HasCause};
 ghost use Rattle.nr_outside.specs.StdSink.{writer_of};
 
@@ -48,8 +47,6 @@ impl<W: Write + Drop> Sink for StdSink<W> {
     ghost faults = { λ s. s.faults };
 
     fn write(&mut self, piece: &[u8]) -> Result<(), Fault>
-        ensures ok { ⊥ → OnOk result ([] ≡ [] ++ piece.now) }
-        ensures part { ⊥ → AddsPart [] [] piece.now }
         ensures cause { HasCause self.old.faults self.new.faults result }
         ensures written { OnOk result (Appends (W.contents (writer_of self.old)) (W.contents (writer_of self.new)) piece.now) }
     {
