@@ -1,5 +1,5 @@
 -- What was sent on the connections of a wire in memory, by their number.
-use Rattle.std.proofs.Common.{◌≡◌, ◌≤◌, ◌<◌, ◌+◌, Bool, true, false, List, [], ◌∷◌, ◌++◌, ℕ, Some, map, length, get_or, refl, ap, sym, suc, zero, arith}
+use Rattle.std.proofs.Common.{◌≡◌, ◌≤◌, ◌<◌, Bool, true, false, List, [], ◌∷◌, ℕ, Some, map, length, get_or, refl, ap, sym, suc, zero, arith}
 use Rattle.std.specs.List.{slice_get}
 use Rattle.nr_outside.specs.Wire.{Connection, connections}
 use Rattle.nr_outside.specs.Link.{connection_of}

@@ -7,3 +7,4 @@ pub mod Wire
 pub mod Link
 pub mod MemWire
 pub mod MemSink
+pub mod StdSink

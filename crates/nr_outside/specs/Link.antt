@@ -1,7 +1,12 @@
 -- What a connection in memory stands for.
-use Rattle.std.specs.Prelude.{ℕ, List, ◌++◌, drop, flat_map}
+use Rattle.std.specs.Prelude.{ℕ, List, ◌++◌, drop, flat_map, Vec}
+use Rattle.std.specs.declared.alloc.Global.{Global}
 use Rattle.nr_outside.specs.Wire.{Connection}
 use Rattle.nr_outside.specs.declared.wire.link.Link.{Link}
+
+-- what a script gives: its pieces, one after another
+abbrev pub script_bytes : Vec (Vec ℕ Global) Global → List ℕ
+script_bytes script = flat_map (λ p. p.items) script.items
 
 -- the rest of the piece that is being given, and then the later pieces
 abbrev pub link_to_come : Link → List ℕ

@@ -5,3 +5,7 @@ use Rattle.nr_outside.specs.declared.sink.mem.MemSink.{MemSink}
 -- what was written to it
 abbrev pub mem_sink_bytes : MemSink → List ℕ
 mem_sink_bytes s = s.written.items
+
+-- the numbers of its writes that are to fail
+abbrev pub mem_sink_fails : MemSink → List ℕ
+mem_sink_fails s = s.plan.fails.items

@@ -2,7 +2,7 @@
 use Rattle.std.specs.Prelude.{ℕ, Bool, List, map}
 use Rattle.std.specs.String.{string_bytes}
 use Rattle.nr_outside.specs.Wire.{Connection, connections}
-use Rattle.nr_outside.specs.Link.{link_to_come, connection_of}
+use Rattle.nr_outside.specs.Link.{script_bytes, link_to_come, connection_of}
 use Rattle.nr_outside.specs.declared.wire.event.Event.{Event}
 use Rattle.nr_outside.specs.declared.wire.mem.MemWire.{MemWire}
 
@@ -25,3 +25,11 @@ mem_wire_connections w = connections w.opened (mem_wire_past w) w.live.sent.item
 -- its events
 abbrev pub mem_wire_events : MemWire → List Event
 mem_wire_events w = w.events.items
+
+-- what the connections that it is still to open give
+abbrev pub mem_wire_scripts : MemWire → List (List ℕ)
+mem_wire_scripts w = map script_bytes w.scripts.items
+
+-- the numbers of its calls that are to fail
+abbrev pub mem_wire_fails : MemWire → List ℕ
+mem_wire_fails w = w.plan.fails.items

@@ -6,7 +6,7 @@ ghost use Rattle.nr_outside.specs.Files.{told_of};
 
 use std::alloc::{AllocError, Global};
 
-fn is_class_path(path: &str) -> bool
+pub fn is_class_path(path: &str) -> bool
     ensures { result ≡ is_class_path path.now }
 {
     path.as_bytes().ends_with(b".class".as_slice())

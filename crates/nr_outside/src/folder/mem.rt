@@ -24,13 +24,14 @@ impl MemFolder {
     ghost use Rattle.std.specs.Prelude.{◌≡◌, IsTrue, map};
     ghost use Rattle.nr_outside.specs.Folder.{is_each_once};
     ghost use Rattle.nr_outside.specs.Files.{told_of};
-    ghost use Rattle.nr_outside.specs.MemFolder.{mem_folder_files};
+    ghost use Rattle.nr_outside.specs.MemFolder.{mem_folder_files, mem_folder_fails};
 
     /// A folder of these files, each by its folder, its path there and its bytes. `fails` has the numbers,
     /// from 1, of the calls that are to fail. `are_each_once` tests the condition.
     pub fn new(files: Vec<(String, String, Vec<u8>)>, fails: Vec<u64>) -> Self
         requires { IsTrue (is_each_once (map told_of files.items)) }
-        ensures { mem_folder_files result ≡ map told_of files.items }
+        ensures files { mem_folder_files result ≡ map told_of files.items }
+        ensures fails { mem_folder_fails result ≡ fails.items }
     {
         MemFolder {
             files,

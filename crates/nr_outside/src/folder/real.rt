@@ -1,6 +1,6 @@
 // A folder of the system's. It tells nothing.
-ghost use Rattle.std.specs.Prelude.{◌≡◌, ◌≤◌, [], IsTrue, IfOk, vec_len};
-ghost use Rattle.nr_outside.specs.Causes.{HasCause};
+ghost use Rattle.std.specs.Prelude.{◌≤◌, ◌<◌, [], IfOk, vec_len};
+ghost use Rattle.std.specs.Io.KnownBytes.{Consumes, IsAtEnd};
 
 use crate::counted::counted;
 use crate::fault::Fault;
@@ -23,7 +23,9 @@ pub struct RealFolder<R: Files + AllocGlobal + Clone + Drop> {
 
 // The first `max` bytes of a reader, or all where it has fewer.
 fn read_up_to<F: Read>(alloc: Global, file: &mut F, max: usize) -> io::Result<Vec<u8>>
-    ensures { IfOk result (λ bytes. vec_len bytes ≤ max) }
+    ensures bound { IfOk result (λ bytes. vec_len bytes ≤ max) }
+    ensures front { IfOk result (λ bytes. Consumes (F.remaining file.old) (F.remaining file.new) bytes.items) }
+    ensures whole { IfOk result (λ bytes. vec_len bytes < max → IsAtEnd (F.remaining file.new)) }
 {
     let mut bytes = Vec::new(alloc);
     let mut part = [0u8; 4096];

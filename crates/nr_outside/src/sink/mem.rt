@@ -16,11 +16,12 @@ pub struct MemSink {
 }
 
 impl MemSink {
-    ghost use Rattle.nr_outside.specs.MemSink.{mem_sink_bytes};
+    ghost use Rattle.nr_outside.specs.MemSink.{mem_sink_bytes, mem_sink_fails};
 
     /// An empty sink. `fails` has the numbers, from 1, of the writes that are to fail.
     pub fn new(alloc: Global, fails: Vec<u64>) -> Self
-        ensures { mem_sink_bytes result ≡ [] }
+        ensures bytes { mem_sink_bytes result ≡ [] }
+        ensures fails { mem_sink_fails result ≡ fails.items }
     {
         MemSink {
             written: Vec::new(alloc),

@@ -1,7 +1,8 @@
 // A sink over a writer of the system's. It tells nothing.
 ghost use Rattle.std.specs.Prelude.{[], OnOk};
-ghost use Rattle.std.specs.Io.KnownBytes.{Keeps};
+ghost use Rattle.std.specs.Io.KnownBytes.{Keeps, Appends};
 ghost use Rattle.nr_outside.specs.Causes.{HasCause};
+ghost use Rattle.nr_outside.specs.StdSink.{writer_of};
 
 use crate::counted::{counted, failed};
 use crate::fault::Fault;
@@ -45,7 +46,10 @@ impl<W: Write + Drop> Sink for StdSink<W> {
 
     ghost faults = { λ s. s.faults };
 
-    fn write(&mut self, piece: &[u8]) -> Result<(), Fault> {
+    fn write(&mut self, piece: &[u8]) -> Result<(), Fault>
+        ensures cause { HasCause self.old.faults self.new.faults result }
+        ensures written { OnOk result (Appends (W.contents (writer_of self.old)) (W.contents (writer_of self.new)) piece.now) }
+    {
         match write_whole(&mut self.inner, piece, &mut self.faults) {
             Ok(()) => flush(&mut self.inner, &mut self.faults),
             Err(fault) => Err(fault),

@@ -1,4 +1,6 @@
 // The objects over the system.
+ghost use Rattle.std.specs.Prelude.{◌≡◌, true};
+
 use crate::{Fault, Folder, RealFolder, Sink, StdSink, TcpWire, Wire};
 use std::alloc::{AllocError, Global};
 use std::io::{ErrorKind, Write};
@@ -100,48 +102,58 @@ fn folders_that_are_faults(rt: HostRuntime) -> Result<(), Fail> {
     Ok(())
 }
 
+// Whether one of many sends is refused.
+fn is_refused_at_last<W: Wire>(wire: &mut W, piece: &[u8]) -> bool
+    requires { W.opened wire.old ≡ true }
+{
+    'sends: for _ in 0..1000 {
+        if wire.send(piece) == Err(Fault::Failed) {
+            return true;
+        }
+    }
+    false
+}
+
 #[test]
-fn a_wire_over_tcp(rt: HostRuntime) -> Result<(), Fail> {
-    let mut server = TcpWire::new(rt.clone()?);
-    let mut client = TcpWire::new(rt.clone()?);
+fn addresses_that_are_faults(rt: HostRuntime) -> Result<(), Fail> {
     for addr in [
         "",
         "nowhere",
         "127.0.0.1",
         "127.0.0.1:",
+        "127.0.0.1:x",
         "127.0.0.1:70000",
         "127.0.0.1:47132",
     ] {
-        assert_eq!(rt; client.open(addr), Err(Fault::Failed), "{addr}");
+        let mut wire = TcpWire::new(rt.clone()?);
+        assert_eq!(rt; wire.open(addr), Err(Fault::Failed), "{addr}");
+        assert!(rt; !wire.is_open());
     }
-    assert_eq!(rt; server.accept(), Err(Fault::Failed));
-    assert_eq!(rt; server.listen("127.0.0.1:x"), Err(Fault::Failed));
+    let mut wire = TcpWire::new(rt.clone()?);
+    assert_eq!(rt; wire.listen("127.0.0.1"), Err(Fault::Failed));
+    assert_eq!(rt; wire.accept(), Err(Fault::Failed));
+    Ok(())
+}
+
+// A send to a peer that has closed is refused, and doesn't end the process.
+#[test]
+fn a_pair_over_tcp(rt: HostRuntime) -> Result<(), Fail> {
+    let mut server = TcpWire::new(rt.clone()?);
+    let mut client = TcpWire::new(rt.clone()?);
+    let mut into = [0u8; 3];
     assert_eq!(rt; server.listen("127.0.0.1:47131"), Ok(()));
-    assert_eq!(rt; client.listen("127.0.0.1:47131"), Err(Fault::Failed));
     assert_eq!(rt; client.open("127.0.0.1:47131"), Ok(()));
     assert_eq!(rt; server.accept(), Ok(()));
-    assert_eq!(rt; (client.is_open(), server.is_open()), (true, true));
-    let mut into = [0u8; 3];
     assert_eq!(rt; client.send(b"".as_slice()), Ok(()));
     assert_eq!(rt; client.send(b"ping".as_slice()), Ok(()));
     assert_eq!(rt; server.receive(&mut into), Ok(3));
     assert_eq!(rt; into, *b"pin");
     assert_eq!(rt; server.receive(&mut into), Ok(1));
-    assert_eq!(rt; server.send(b"po".as_slice()), Ok(()));
-    assert_eq!(rt; client.receive(&mut into), Ok(2));
-    assert_eq!(rt; into, *b"pon");
+    assert_eq!(rt; into, *b"gin");
     client.close();
     assert_eq!(rt; server.receive(&mut into), Ok(0));
-    let mut sends = 0u32;
-    let mut refused = Ok(());
-    for _ in 0..1000 {
-        if refused.is_ok() {
-            refused = server.send(b"late".as_slice());
-            sends += 1;
-        }
-    }
-    assert_eq!(rt; refused, Err(Fault::Failed));
-    assert!(rt; sends < 1000);
+    assert!(rt; is_refused_at_last(&mut server, b"late".as_slice()));
+    assert!(rt; server.is_open());
     server.close();
     assert!(rt; !server.is_open());
     Ok(())

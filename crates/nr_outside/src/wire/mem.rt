@@ -34,11 +34,12 @@ pub struct MemWire {
 }
 
 impl MemWire {
-    ghost use Rattle.std.specs.Prelude.{◌≡◌, ◌<◌, ◌++◌, ◌∷◌, [], true, false, is_ok, length, vec_len, vec_capacity, map, OnOk, IsErrOf, Some, slice_get};
+    ghost use Rattle.std.specs.Prelude.{◌≡◌, ◌<◌, ◌++◌, ◌∷◌, [], true, false, is_ok, length, vec_len, vec_capacity, map, OnOk, OnErr, IsErrOf, Some, slice_get};
     ghost use Rattle.std.specs.String.{string_bytes};
     ghost use Rattle.nr_outside.specs.Causes.{HasCause};
     ghost use Rattle.nr_outside.specs.Wire.{OpenIsTold};
-    ghost use Rattle.nr_outside.specs.MemWire.{mem_wire_opened, mem_wire_addresses, mem_wire_past, mem_wire_connections, mem_wire_events};
+    ghost use Rattle.nr_outside.specs.Link.{link_to_come, script_bytes};
+    ghost use Rattle.nr_outside.specs.MemWire.{mem_wire_opened, mem_wire_addresses, mem_wire_past, mem_wire_connections, mem_wire_events, mem_wire_scripts, mem_wire_fails};
 
     /// A wire with nothing open, whose connections give these scripts in turn, each the pieces that it gives; a
     /// piece with no bytes is skipped. `fails` has the numbers, from 1, of the calls that are to fail.
@@ -47,6 +48,8 @@ impl MemWire {
         ensures addresses { mem_wire_addresses result ≡ [] }
         ensures past { mem_wire_past result ≡ [] }
         ensures events { mem_wire_events result ≡ [] }
+        ensures scripts { mem_wire_scripts result ≡ map script_bytes scripts.items }
+        ensures fails { mem_wire_fails result ≡ fails.items }
     {
         MemWire {
             alloc,
@@ -107,6 +110,8 @@ impl MemWire {
         requires event_room { vec_len self.old.events < vec_capacity self.old.events }
         ensures opened { self.new.opened ≡ is_ok result }
         ensures memory { IsErrOf result Fault.NoMemory → ⊥ }
+        ensures script { OnOk result (mem_wire_scripts self.old ≡ link_to_come self.new.live ∷ mem_wire_scripts self.new) }
+        ensures none { OnErr result (mem_wire_scripts self.old ≡ []) }
         ensures sent { OnOk result (self.new.live.sent.items ≡ []) }
         ensures given { OnOk result (self.new.live.given.items ≡ []) }
         ensures events { OpenIsTold self.old.events.items self.new.events.items result }

@@ -1,4 +1,4 @@
-use Rattle.std.proofs.Common.{◌<◌, ◌≤◌, Some, length, map, vec_len, ap, sym, ◌∙◌, arith}
+use Rattle.std.proofs.Common.{Some, map, ap, sym, ◌∙◌, arith}
 use Rattle.nr_outside.specs.Link.{link_to_come, connection_of}
 use Rattle.std.proofs.lemmas.List.{length-map}
 use Rattle.nr_outside.proofs.Sent.{sent_past, sent_live}

@@ -1,0 +1,7 @@
+use Rattle.std.proofs.Common.{All, IsTrue}
+use Rattle.std.specs.String.{string_bytes}
+use Rattle.nr_outside.specs.Folder.{is_class_path}
+use Rattle.nr_outside.proofs.folder.walk.list.Given as goal
+
+abbrev pub invariant-entries : goal.invariant-entries
+invariant-entries g l = All (λ path. IsTrue (is_class_path (string_bytes path))) l.paths.items
