@@ -6,3 +6,5 @@ pub mod Laws
 pub mod Numbers
 pub mod Lists
 pub mod Takes
+pub mod Wholes
+pub mod ToEnd
