@@ -8,3 +8,5 @@ pub mod Lists
 pub mod Takes
 pub mod Wholes
 pub mod ToEnd
+pub mod While
+pub mod Spans

@@ -17,6 +17,9 @@ pub record ReadAll {A : Type 0} (G : A → List ℕ → Type 0) (xs ys : List A)
   pub each : Each G items p.rest
   pub end : q.rest ≡ []
 
+behind : {A : Type 0} (xs before ys items : List A) (x : A) → ys ≡ before ++ items → before ≡ xs ++ x ∷ [] → ys ≡ xs ++ (x ∷ items)
+behind xs before ys items x e f = e ∙ ap (λ z. z ++ items) f ∙ append_assoc xs (x ∷ []) items
+
 ended : {A F : Type 0} (r : Reader F A) (G : A → List ℕ → Type 0) (k : ℕ) (xs ys : List A) (p q : Place) → length p.rest ≡ 0 → until (onto r) k xs p ≡ Ok (ys, q) → ReadAll G xs ys p q
 ended r G k xs ys p q e h =
     let is = ok_is _ _ (sym (at_end (onto r) k xs p e) ∙ h) in
@@ -41,7 +44,7 @@ found {r = r} {G = G} rs takes (suc k) xs ys p q le fits h =
           let more = found rs takes k step.0.0 ys step.0.1 q (omega (arith, less)) took.fits step.2 in
           record {
             items = x.0 ∷ more.items;
-            joined = more.joined ∙ ap (λ z. z ++ more.items) x.1 ∙ append_assoc xs (x.0 ∷ []) more.items;
+            joined = behind xs step.0.0 ys more.items x.0 more.joined x.1;
             each = (took.text, step.0.1.rest, x.2, more.each, took.rest);
             end = more.end;
           }
