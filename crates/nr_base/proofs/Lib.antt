@@ -10,3 +10,5 @@ pub mod Wholes
 pub mod ToEnd
 pub mod While
 pub mod Spans
+pub mod Units
+pub mod NameLaws

@@ -20,7 +20,10 @@ GivesBy is_free view (Err e) after read = Fails is_free e read
 abbrev pub Gives : {A F : Type 0} → (F → Bool) → Result A F → Place → Result (A × Place) F → Type 0
 Gives is_free result after read = GivesBy is_free (λ x. x) result after read
 
--- What a call on a whole text gave is what reading gives.
+-- What a call on a whole text gave, seen by a view, is what reading gives.
+abbrev pub GivesWholeBy : {X A F : Type 0} → (F → Bool) → (X → A) → Result X F → Result A F → Type 0
+GivesWholeBy is_free view (Ok x) read = read ≡ Ok (view x)
+GivesWholeBy is_free view (Err e) read = Fails is_free e read
+
 abbrev pub GivesWhole : {A F : Type 0} → (F → Bool) → Result A F → Result A F → Type 0
-GivesWhole is_free (Ok x) read = read ≡ Ok x
-GivesWhole is_free (Err e) read = Fails is_free e read
+GivesWhole is_free result read = GivesWholeBy is_free (λ x. x) result read

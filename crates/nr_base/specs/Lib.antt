@@ -3,3 +3,5 @@ pub mod Reader
 pub mod Bytes
 pub mod Clauses
 pub mod Grammar
+pub mod ModifiedUtf8
+pub mod Names

@@ -3,8 +3,10 @@
 
 mod cur;
 mod items;
+mod name;
 mod put;
 
 pub use cur::{Cur, Short};
 pub use items::Items;
+pub use name::{Name, NameFault};
 pub use put::Put;
