@@ -1,7 +1,7 @@
 //! Names.
 
 ghost use Rattle.std.specs.Prelude.{◌≡◌, ◌<◌, ◌^◌, length, IfOk, ℕ, List};
-ghost use Rattle.nr_base.specs.Clauses.{GivesWhole, GivesWholeBy};
+ghost use Rattle.nr_base.specs.Clauses.{GivesWhole, GivesWholeBy, none_free};
 ghost use Rattle.nr_base.specs.ModifiedUtf8.{IsModifiedUtf8};
 ghost use Rattle.nr_base.specs.Names.{is_free, name_of};
 
@@ -22,7 +22,7 @@ pub struct Name {
 }
 
 impl Model for Name {
-    ghost use Rattle.std.specs.Prelude.{ℕ, List, IsTrue};
+    ghost use Rattle.std.specs.Prelude.{ℕ, ◌<◌, ◌^◌, List, length, IsTrue};
     ghost use Rattle.nr_base.specs.Grammar.{IsBytes};
     ghost use Rattle.nr_base.specs.Names.{is_name};
 
@@ -30,7 +30,7 @@ impl Model for Name {
 
     ghost view = { λ n. n.bytes };
 
-    ghost invariant = { λ n. IsTrue (is_name n.bytes) × IsBytes n.bytes };
+    ghost invariant = { λ n. IsTrue (is_name n.bytes) × IsBytes n.bytes × (length n.bytes < 2 ^ 16) };
 
     ghost inverse = { λ bytes. record { bytes = bytes } };
 }
@@ -39,7 +39,7 @@ impl Model for Name {
 #[tactic(auto, using(crate::proofs::NameLaws::scans_on, crate::proofs::NameLaws::scan_stops, crate::proofs::NameLaws::scan_ends, crate::proofs::NameLaws::unit_smaller))]
 fn check(bytes: &[u8]) -> Result<(), NameFault>
     requires { length bytes.now < 2 ^ 16 }
-    ensures { GivesWholeBy is_free (λ _. bytes.now) result (name_of bytes.now) }
+    ensures { GivesWholeBy none_free (λ _. bytes.now) result (name_of bytes.now) }
 {
     let mut cur = Cur::new(bytes);
     while !cur.is_empty() {
@@ -78,6 +78,7 @@ impl Name {
     pub fn as_bytes(&self) -> &[u8]
         ensures bytes { result.now ≡ self.now }
         ensures legal { IsModifiedUtf8 self.now }
+        ensures short { length self.now < 2 ^ 16 }
     {
         self.bytes.as_slice()
     }
