@@ -1,9 +1,9 @@
 //! Names.
 
-ghost use Rattle.std.specs.Prelude.{◌≡◌, ◌<◌, ◌^◌, length, IfOk, ℕ, List};
+ghost use Rattle.std.specs.Prelude.{◌≡◌, ◌<◌, ◌^◌, length, IsTrue, IfOk};
 ghost use Rattle.nr_base.specs.Clauses.{GivesWhole, GivesWholeBy, none_free};
 ghost use Rattle.nr_base.specs.ModifiedUtf8.{IsModifiedUtf8};
-ghost use Rattle.nr_base.specs.Names.{is_free, name_of};
+ghost use Rattle.nr_base.specs.Names.{is_free, is_name, name_of};
 
 mod fault;
 mod unit;
@@ -53,9 +53,7 @@ fn checked(alloc: Global, bytes: &[u8]) -> Result<Name, NameFault>
     ensures { GivesWhole is_free result (name_of bytes.now) }
 {
     check(bytes)?;
-    Ok(Name {
-        bytes: Items::of(alloc, bytes)?,
-    })
+    Ok(Name::copy_of(alloc, bytes)?)
 }
 
 impl Name {
@@ -72,6 +70,17 @@ impl Name {
         ensures exact { GivesWhole is_free result (name_of bytes.now) }
     {
         checked(alloc, bytes)
+    }
+
+    /// The name of bytes that are known to be one. The error comes only for want of memory.
+    pub(crate) fn copy_of(alloc: Global, bytes: &[u8]) -> Result<Name, AllocError>
+        requires short { length bytes.now < 2 ^ 16 }
+        requires legal { IsTrue (is_name bytes.now) }
+        ensures { IfOk result (λ name. name ≡ bytes.now) }
+    {
+        Ok(Name {
+            bytes: Items::of(alloc, bytes)?,
+        })
     }
 
     /// The bytes of the name, in modified UTF-8.
