@@ -1,6 +1,8 @@
 //! Descriptors of fields and methods.
 
+mod class;
 mod fault;
+mod field;
 mod types;
 
 pub use fault::DescFault;
