@@ -118,18 +118,16 @@ high : (b : ℕ) → 0x80 ≤ b → is_reserved b ≡ false
 high b le = grind (arith, nat_tests)
 
 -- what a unit makes of the test
-pub class_unit : Bool → ℕ → List ℕ → Bool
+abbrev pub class_unit : Bool → ℕ → List ℕ → Bool
 class_unit begun u rest = cond (eqb u slash) (begun && class_from false rest) (not (is_reserved u) && class_from true rest)
 
 high_byte : (begun : Bool) (b : ℕ) (rest : List ℕ) → 0x80 ≤ b → class_from begun (b ∷ rest) ≡ class_from true rest
 high_byte begun b rest le = at_other begun b rest (λ e. omega arith) ∙ ap (λ z. not z && class_from true rest) (high b le)
 
 high_unit : (begun : Bool) (u : ℕ) (rest : List ℕ) → 0x80 ≤ u → class_unit begun u rest ≡ class_from true rest
-unfolding class_unit
 high_unit begun u rest le = rw (ne_eqb u slash (λ e. omega arith), high u le) refl
 
 pub over_unit : (begun : Bool) (u : ℕ) (rest : List ℕ) → IsUnit u → class_from begun (unit_bytes u ++ rest) ≡ class_unit begun u rest
-unfolding class_unit
 over_unit begun u rest is =
     elim (cases_lt u 0x80) [
       | inl lt ↦ ap (λ z. class_from begun (z ++ rest)) (one_bytes u (omega arith) (omega arith))

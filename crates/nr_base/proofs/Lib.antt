@@ -16,3 +16,4 @@ pub mod DescTakes
 pub mod DescLoops
 pub mod ClassLaw
 pub mod ClassNames
+pub mod DescLaws
