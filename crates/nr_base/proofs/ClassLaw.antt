@@ -1,11 +1,11 @@
 -- The law of class names in descriptors.
-use Rattle.std.proofs.Common.{◌≡◌, ℕ, zero, suc, ◌+◌, ◌-◌, ◌<◌, ◌≤◌, ◌⊎◌, Bool, true, false, cond, eqb, List, [], ◌∷◌, ◌++◌, length, take, Result, Ok, refl, sym, ap, subst, ◌∙◌, append_assoc, arith, inl, inr}
+use Rattle.std.proofs.Common.{◌≡◌, ℕ, zero, suc, ◌+◌, ◌-◌, ◌<◌, ◌⊎◌, Bool, true, false, eqb, List, [], ◌∷◌, ◌++◌, length, take, Ok, refl, sym, ap, subst, ◌∙◌, append_assoc, arith, inl, inr}
 use Rattle.std.specs.Prelude.{◌&&◌, not, IsTrue}
 use Rattle.std.specs.List.{AllByRecursion, flat_map}
 use Rattle.std.proofs.lemmas.Bool.{cases_eq, eqb-true, eqb-false, ne_eqb}
 use Rattle.std.proofs.lemmas.List.{append-nil, length-append, take_at}
 use Rattle.nr_base.specs.Place.{Place}
-use Rattle.nr_base.specs.Reader.{Reader, while_more}
+use Rattle.nr_base.specs.Reader.{while_more}
 use Rattle.nr_base.specs.Grammar.{Grammar, IsBytes, Then, pick, give, none, Repeat, While, Spanned}
 use Rattle.nr_base.specs.ModifiedUtf8.{unit_bytes, IsUnit, IsModifiedUtf8, unit}
 use Rattle.nr_base.specs.Names.{is_name}
@@ -71,16 +71,16 @@ whole_text begun x text t e = t.whole ∙ rw (e, t.first.1, append-nil (unit_byt
 turn : (begun : Bool) (x : Bool × Bool) (text : List ℕ) → letter begun x text → Ended begun x text ⊎ GoesOn begun x text
 turn begun x text t =
     picked (eqb t.value end) (pick begun (give (false, begun)) none) (goes begun t.value) x t.back t.second
-        (λ is g. picked begun (give (false, begun)) none x t.back g
-        (λ b h. inl (record { no_more = ap (λ (z : Bool × Bool). z.0) h.0; begun_is = b; text_is = whole_text begun x text t h.1 ∙ ap unit_bytes (eqb-true _ _ is) }))
-        (λ b h. absurd h))
-        (λ no g. picked (eqb t.value slash) (pick begun (give (true, false)) none) (pick (is_reserved t.value) none (give (true, true))) x t.back g
-        (λ is h. picked begun (give (true, false)) none x t.back h
-          (λ b k. inr (record { value = t.value; is_unit = t.first.0; more = ap (λ (z : Bool × Bool). z.0) k.0; text_is = whole_text begun x text t k.1; test = λ rest. slash_test begun t.value rest t.first.0 (eqb-true _ _ is) b ∙ ap (λ (z : Bool × Bool). class_from z.1 rest) (sym k.0) }))
-          (λ b k. absurd k))
-        (λ ne h. picked (is_reserved t.value) none (give (true, true)) x t.back h
-          (λ b k. absurd k)
-          (λ b k. inr (record { value = t.value; is_unit = t.first.0; more = ap (λ (z : Bool × Bool). z.0) k.0; text_is = whole_text begun x text t k.1; test = λ rest. other_test begun t.value rest t.first.0 (eqb-false _ _ ne) b ∙ ap (λ (z : Bool × Bool). class_from z.1 rest) (sym k.0) }))))
+    (λ is g. picked begun (give (false, begun)) none x t.back g
+    (λ b h. inl (record { no_more = ap (λ (z : Bool × Bool). z.0) h.0; begun_is = b; text_is = whole_text begun x text t h.1 ∙ ap unit_bytes (eqb-true _ _ is) }))
+    (λ b h. absurd h))
+    (λ no g. picked (eqb t.value slash) (pick begun (give (true, false)) none) (pick (is_reserved t.value) none (give (true, true))) x t.back g
+    (λ is h. picked begun (give (true, false)) none x t.back h
+    (λ b k. inr (record { value = t.value; is_unit = t.first.0; more = ap (λ (z : Bool × Bool). z.0) k.0; text_is = whole_text begun x text t k.1; test = λ rest. slash_test begun t.value rest t.first.0 (eqb-true _ _ is) b ∙ ap (λ (z : Bool × Bool). class_from z.1 rest) (sym k.0) }))
+    (λ b k. absurd k))
+    (λ ne h. picked (is_reserved t.value) none (give (true, true)) x t.back h
+    (λ b k. absurd k)
+    (λ b k. inr (record { value = t.value; is_unit = t.first.0; more = ap (λ (z : Bool × Bool). z.0) k.0; text_is = whole_text begun x text t k.1; test = λ rest. other_test begun t.value rest t.first.0 (eqb-false _ _ ne) b ∙ ap (λ (z : Bool × Bool). class_from z.1 rest) (sym k.0) }))))
 
 -- ---- the characters and the `;`
 
@@ -102,11 +102,11 @@ before begun next text front back w g more =
     elim (turn begun (true, next) front g) [
       | inl a ↦ absurd (let e : true ≡ false = a.no_more in cc)
       | inr a ↦ record {
-          units = a.value ∷ more.units;
-          each = (a.is_unit, more.each);
-          test = a.test (flat_map unit_bytes more.units) ∙ more.test;
-          whole = w ∙ ap (λ z. z ++ back) a.text_is ∙ ap (λ z. unit_bytes a.value ++ z) more.whole ∙ sym (append_assoc (unit_bytes a.value) (flat_map unit_bytes more.units) (end ∷ []));
-        }
+        units = a.value ∷ more.units;
+        each = (a.is_unit, more.each);
+        test = a.test (flat_map unit_bytes more.units) ∙ more.test;
+        whole = w ∙ ap (λ z. z ++ back) a.text_is ∙ ap (λ z. unit_bytes a.value ++ z) more.whole ∙ sym (append_assoc (unit_bytes a.value) (flat_map unit_bytes more.units) (end ∷ []));
+      }
     ]
 
 spelled : (k : ℕ) (begun t : Bool) (text : List ℕ) → Repeat letter k begun t text → Spelled begun text

@@ -1,8 +1,8 @@
 -- The test of a class name says that the name is unqualified names with `/` between.
-use Rattle.std.proofs.Common.{◌≡◌, ℕ, ◌+◌, ◌/◌, ◌%◌, ◌^◌, ◌<◌, ◌≤◌, Bool, true, false, cond, eqb, ltb, List, [], ◌∷◌, ◌++◌, length, refl, sym, ap, subst, ◌∙◌, append_assoc, arith, inl, inr}
-use Rattle.std.specs.Prelude.{◌&&◌, ◌||◌, not, IsTrue}
-use Rattle.std.specs.List.{AllByRecursion, list_all, join_with_byte, flat_map}
-use Rattle.std.proofs.lemmas.Bool.{cases_lt, lt-ltb, ltb-true, ne_eqb, cases_eq, eqb-true, eq-eqb}
+use Rattle.std.proofs.Common.{◌≡◌, ℕ, ◌+◌, ◌/◌, ◌%◌, ◌<◌, ◌≤◌, Bool, true, false, cond, eqb, ltb, List, [], ◌∷◌, ◌++◌, length, refl, sym, ap, subst, ◌∙◌, arith, inl, inr}
+use Rattle.std.specs.Prelude.{◌&&◌, not, IsTrue}
+use Rattle.std.specs.List.{AllByRecursion, list_all, join_with_byte}
+use Rattle.std.proofs.lemmas.Bool.{cases_lt, lt-ltb, ltb-true, ne_eqb, cases_eq}
 use Rattle.std.proofs.lemmas.Bool.Decides.{nat_tests}
 use Rattle.std.proofs.lemmas.List.{append-nil}
 use Rattle.nr_base.specs.ModifiedUtf8.{unit_bytes, IsUnit}
@@ -55,7 +55,10 @@ parts begun (b ∷ bytes) e =
           let t = both_true begun (class_from false bytes) (subst (λ z. class_from begun (z ∷ bytes) ≡ true) is e) in
           let more = parts false bytes t.1 in
           record {
-            first = []; others = more.first ∷ more.others; plain_first = refl; some = λ no. absurd cc;
+            first = [];
+            others = more.first ∷ more.others;
+            plain_first = refl;
+            some = λ no. absurd cc;
             each = (unqualified more.first (more.some refl) more.plain_first, more.each);
             joined = ap (λ z. z ∷ bytes) is ∙ ap (λ z. slash ∷ z) more.joined;
           }
@@ -63,7 +66,10 @@ parts begun (b ∷ bytes) e =
           let t = both_true (not (is_reserved b)) (class_from true bytes) (sym (at_other begun b bytes ne) ∙ e) in
           let more = parts true bytes t.1 in
           record {
-            first = b ∷ more.first; others = more.others; plain_first = and_true (not (is_reserved b)) (plain more.first) t.0 more.plain_first; some = λ no. omega arith;
+            first = b ∷ more.first;
+            others = more.others;
+            plain_first = and_true (not (is_reserved b)) (plain more.first) t.0 more.plain_first;
+            some = λ no. omega arith;
             each = more.each;
             joined = ap (λ z. b ∷ z) more.joined ∙ joined_cons b more.first more.others;
           }
@@ -132,7 +138,7 @@ over_unit begun u rest is =
     elim (cases_lt u 0x80) [
       | inl lt ↦ ap (λ z. class_from begun (z ++ rest)) (one_bytes u (omega arith) (omega arith))
       | inr ge ↦ elim (cases_lt u 0x800) [
-          | inl lt ↦ ap (λ z. class_from begun (z ++ rest)) (two_bytes u (omega arith) (omega arith)) ∙ high_byte begun (0xC0 + u / 64) ((0x80 + u % 64) ∷ rest) (omega arith) ∙ high_byte true (0x80 + u % 64) rest (omega arith) ∙ sym (high_unit begun u rest (omega arith))
-          | inr le ↦ ap (λ z. class_from begun (z ++ rest)) (three_bytes u (omega arith)) ∙ high_byte begun (0xE0 + u / 4096) ((0x80 + u / 64 % 64) ∷ (0x80 + u % 64) ∷ rest) (omega arith) ∙ high_byte true (0x80 + u / 64 % 64) ((0x80 + u % 64) ∷ rest) (omega arith) ∙ high_byte true (0x80 + u % 64) rest (omega arith) ∙ sym (high_unit begun u rest (omega arith))
-        ]
+        | inl lt ↦ ap (λ z. class_from begun (z ++ rest)) (two_bytes u (omega arith) (omega arith)) ∙ high_byte begun (0xC0 + u / 64) ((0x80 + u % 64) ∷ rest) (omega arith) ∙ high_byte true (0x80 + u % 64) rest (omega arith) ∙ sym (high_unit begun u rest (omega arith))
+        | inr le ↦ ap (λ z. class_from begun (z ++ rest)) (three_bytes u (omega arith)) ∙ high_byte begun (0xE0 + u / 4096) ((0x80 + u / 64 % 64) ∷ (0x80 + u % 64) ∷ rest) (omega arith) ∙ high_byte true (0x80 + u / 64 % 64) ((0x80 + u % 64) ∷ rest) (omega arith) ∙ high_byte true (0x80 + u % 64) rest (omega arith) ∙ sym (high_unit begun u rest (omega arith))
+      ]
     ]

@@ -1,35 +1,29 @@
 -- The laws of descriptors.
-use Rattle.std.proofs.Common.{◌≡◌, ℕ, zero, suc, ◌+◌, ◌-◌, ◌<◌, ◌≤◌, ◌⊎◌, Bool, true, false, eqb, List, [], ◌∷◌, ◌++◌, length, Option, Some, None, Result, Ok, refl, sym, ap, subst, ◌∙◌, append_assoc, arith, inl, inr}
-use Rattle.std.specs.Prelude.{◌||◌, replicate, IfSome, codes}
+use Rattle.std.proofs.Common.{◌≡◌, ℕ, zero, suc, ◌+◌, ◌-◌, ◌<◌, ◌≤◌, true, eqb, List, [], ◌∷◌, ◌++◌, refl, sym, ap, subst, ◌∙◌, arith}
+use Rattle.std.specs.Prelude.{◌||◌, replicate}
 use Rattle.std.specs.Int.{w8}
-use Rattle.std.specs.List.{AllByRecursion, flat_map}
 use Rattle.std.proofs.lemmas.Bool.{eqb-true, ne_eqb}
-use Rattle.std.proofs.lemmas.List.{append-nil}
-use Rattle.nr_base.specs.Reader.{Reader}
-use Rattle.nr_base.specs.Grammar.{Grammar, number, give, none, Then, pick, Repeat, While}
-use Rattle.nr_base.specs.Descs.{base_text, desc_text, IsBase, IsDesc, desc, result_text, method_text}
-use Rattle.nr_base.specs.DescReading.{of_short, byte_at, base_at, type_at, desc_at, param_at, params_at, result_at, method_at}
+use Rattle.nr_base.specs.Grammar.{Grammar, number, give, none, Then, pick}
+use Rattle.nr_base.specs.Descs.{base_text, IsBase, desc}
+use Rattle.nr_base.specs.DescReading.{of_short, byte_at, base_at, type_at, desc_at}
 use Rattle.nr_base.specs.declared.desc.fault.DescFault.TheVariants as faults
 use Rattle.nr_base.specs.declared.desc.types.DescBase.{DescBase}
 use Rattle.nr_base.specs.declared.desc.types.DescBase.TheVariants as bases
 use Rattle.nr_base.specs.declared.desc.types.Desc.{Desc}
-use Rattle.nr_base.specs.declared.desc.types.MethodDesc.{MethodDesc}
 use Rattle.nr_base.proofs.Laws.{Reads, give_law, none_law, then_law, pick_law, from_law, with_fault_law, same_law}
 use Rattle.nr_base.proofs.Numbers.{u8_law, byte_alone}
-use Rattle.nr_base.proofs.Lists.{leaf, made, picked, picks_first, picks_second, to_tagged, from_tagged}
-use Rattle.nr_base.proofs.While.{while_law}
-use Rattle.nr_base.proofs.DescTakes.{param_takes}
+use Rattle.nr_base.proofs.Lists.{leaf, made, picked, picks_second, from_tagged}
 use Rattle.nr_base.proofs.ClassLaw.{class, class_law}
 
 abbrev bracket : ℕ
 bracket = 0x5B
 
-byte_law : Reads byte_at (number w8)
+pub byte_law : Reads byte_at (number w8)
 unfolding byte_at
 byte_law = with_fault_law of_short u8_law
 
 -- a byte that was read, before the text behind it
-with_head : {A : Type 0} {H : ℕ → A → List ℕ → Type 0} {x : A} {text : List ℕ} (t : Then (number w8) H x text) → text ≡ t.value ∷ t.back
+pub with_head : {A : Type 0} {H : ℕ → A → List ℕ → Type 0} {x : A} {text : List ℕ} (t : Then (number w8) H x text) → text ≡ t.value ∷ t.back
 with_head t = t.whole ∙ ap (λ (z : List ℕ). z ++ t.back) (t.first.1 ∙ byte_alone t.value t.first.0)
 
 -- ---- the types without dimensions
@@ -104,13 +98,13 @@ base_law at letter = same_law
 -- ---- dimensions
 
 -- the head of a type's text, which is neither a `)` nor a V
-record Head (text : List ℕ) : Type 0 where
-  letter : ℕ
-  rest : List ℕ
-  is : text ≡ letter ∷ rest
-  fits : letter < 256
-  not_close : letter ≡ 0x29 → ⊥
-  not_void : letter ≡ 0x56 → ⊥
+pub record Head (text : List ℕ) : Type 0 where
+  pub letter : ℕ
+  pub rest : List ℕ
+  pub is : text ≡ letter ∷ rest
+  pub fits : letter < 256
+  pub not_close : letter ≡ 0x29 → ⊥
+  pub not_void : letter ≡ 0x56 → ⊥
 
 head_is : (letter : ℕ) (rest : List ℕ) → letter < 256 → (letter ≡ 0x29 → ⊥) → (letter ≡ 0x56 → ⊥) → Head (letter ∷ rest)
 head_is letter rest fits a b = record { letter = letter; rest = rest; is = refl; fits = fits; not_close = a; not_void = b }
@@ -138,12 +132,12 @@ not_bracket letter text bases.Long e is = omega (arith, (same_head letter 0x4A t
 not_bracket letter text (bases.Object name) e is = omega (arith, (same_head letter 0x4C text (name ++ 0x3B ∷ []) e).0)
 
 -- what stands behind the first letter of a type, where so many of 255 dimensions are left
-record Typed (left letter : ℕ) (d : Desc) (text : List ℕ) : Type 0 where
-  deeper : ℕ
-  fits : deeper ≤ left
-  dims : d.dims ≡ (255 - left) + deeper
-  ok : IsBase d.base
-  whole : letter ∷ text ≡ replicate deeper bracket ++ base_text d.base
+pub record Typed (left letter : ℕ) (d : Desc) (text : List ℕ) : Type 0 where
+  pub deeper : ℕ
+  pub fits : deeper ≤ left
+  pub dims : d.dims ≡ (255 - left) + deeper
+  pub ok : IsBase d.base
+  pub whole : letter ∷ text ≡ replicate deeper bracket ++ base_text d.base
 
 abbrev flat : ℕ → DescBase → Desc
 flat dims base = record { dims = dims; base = base }
@@ -157,7 +151,7 @@ last_to left letter d text t =
     subst (λ z. Typed left letter z text) (sym l.1) (record { deeper = 0; fits = omega arith; dims = omega arith; ok = l.2.0; whole = l.2.1 })
 
 last_back : (left letter : ℕ) (d : Desc) (text : List ℕ) → d.dims ≡ 255 - left → IsBase d.base → letter ∷ text ≡ base_text d.base → last left letter d text
-last_back left letter d text e ok w = subst (λ z. last left letter (flat z d.base) text) (sym e) (made {f = flat (255 - left)} d.base text (ok, w)) 
+last_back left letter d text e ok w = subst (λ z. last left letter (flat z d.base) text) (sym e) (made {f = flat (255 - left)} d.base text (ok, w))
 
 abbrev more : ℕ → Grammar Desc
 more k = Then (number w8) (λ l. Typed k l)
@@ -177,7 +171,9 @@ more_back : (k m : ℕ) (d : Desc) (text : List ℕ) → suc k ≤ 255 → m ≤
 more_back k m d text le fits dims ok w =
     let h = text_head m d.base in
     record {
-      value = h.letter; front = h.letter ∷ []; back = h.rest;
+      value = h.letter;
+      front = h.letter ∷ [];
+      back = h.rest;
       first = (h.fits, sym (byte_alone h.letter h.fits));
       second = record { deeper = m; fits = fits; dims = omega arith; ok = ok; whole = sym h.is };
       whole = w ∙ h.is;
@@ -193,7 +189,7 @@ suc_back k (suc m) letter d text le fits dims ok w =
     let h = same_head letter bracket text (replicate m bracket ++ base_text d.base) w in
     subst (λ z. pick (eqb z bracket) (more k) (last (suc k) z) d text) (sym h.0) (more_back k m d text le (omega arith) dims ok h.1)
 
-type_law : (left at letter : ℕ) → left ≤ 255 → Reads (type_at left at letter) (Typed left letter)
+pub type_law : (left at letter : ℕ) → left ≤ 255 → Reads (type_at left at letter) (Typed left letter)
 unfolding type_at
 type_law zero at letter le = same_law (pick_law (eqb letter bracket) (none_law (faults.BadDesc at)) (then_law (base_law at letter) (λ base. give_law (flat 255 base))))
     (λ d text g. picked (eqb letter bracket) none (last 0 letter) d text g (λ e h. absurd h) (λ e h. last_to 0 letter d text h))
@@ -204,18 +200,18 @@ type_law (suc k) at letter le = same_law (pick_law (eqb letter bracket) (from_la
 
 -- ---- descriptors of fields
 
-of_typed : (letter : ℕ) (d : Desc) (text : List ℕ) → Typed 255 letter d text → desc d (letter ∷ text)
+pub of_typed : (letter : ℕ) (d : Desc) (text : List ℕ) → Typed 255 letter d text → desc d (letter ∷ text)
 of_typed letter d text g =
     let dims : d.dims ≡ g.deeper = g.dims ∙ omega arith in
     let fits : g.deeper ≤ 255 = g.fits in
     ((omega arith, g.ok), g.whole ∙ ap (λ z. replicate z bracket ++ base_text d.base) (sym dims))
 
 -- the head of a descriptor and what stands behind it
-record Split (d : Desc) (text : List ℕ) : Type 0 where
-  head : Head text
-  typed : Typed 255 head.letter d head.rest
+pub record Split (d : Desc) (text : List ℕ) : Type 0 where
+  pub head : Head text
+  pub typed : Typed 255 head.letter d head.rest
 
-split : (d : Desc) (text : List ℕ) → desc d text → Split d text
+pub split : (d : Desc) (text : List ℕ) → desc d text → Split d text
 split d text g =
     let h = text_head d.dims d.base in
     record {

@@ -1,12 +1,10 @@
 -- The readers of descriptors use up bytes.
-use Rattle.std.proofs.Common.{◌≡◌, ℕ, zero, suc, ◌-◌, ◌+◌, ◌<◌, ◌≤◌, Bool, true, false, eqb, List, ◌∷◌, ◌++◌, [], length, Option, Some, None, Result, Ok, arith}
+use Rattle.std.proofs.Common.{◌≡◌, ℕ, zero, suc, ◌<◌, Bool, false, eqb, List, [], length, Ok, arith}
 use Rattle.std.specs.Prelude.{◌||◌}
 use Rattle.std.specs.Int.{w8}
 use Rattle.nr_base.specs.Place.{Place}
-use Rattle.nr_base.specs.Reader.{Reader, while_more}
 use Rattle.nr_base.specs.LegalNames.{is_reserved}
 use Rattle.nr_base.specs.DescReading.{of_short, of_name, byte_at, letter_at, class_letter_at, class_at, base_at, type_at, param_at, params_at}
-use Rattle.nr_base.specs.declared.desc.fault.DescFault.TheVariants as faults
 use Rattle.nr_base.specs.declared.desc.types.Desc.{Desc}
 use Rattle.nr_base.proofs.Takes.{TakesAll, pure_takes, refuse_takes, bind_takes, choose_takes, fewer_takes, from_takes, with_fault_takes, number_takes, spanned_takes, while_takes}
 use Rattle.nr_base.proofs.NameLaws.{unit_takes}

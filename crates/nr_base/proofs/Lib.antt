@@ -17,3 +17,4 @@ pub mod DescLoops
 pub mod ClassLaw
 pub mod ClassNames
 pub mod DescLaws
+pub mod MethodLaws

@@ -13,13 +13,12 @@ mod field;
 mod method;
 mod types;
 
-pub use fault::DescFault;
-pub use types::{Desc, DescBase, MethodDesc};
-
 use crate::cur::Cur;
+pub use fault::DescFault;
 use field::read_desc;
 use method::read_method;
 use std::alloc::Global;
+pub use types::{Desc, DescBase, MethodDesc};
 
 #[tactic(auto, unfolding(crate::specs::Reader::whole))]
 fn whole_desc(alloc: Global, bytes: &[u8]) -> Result<Desc, DescFault>

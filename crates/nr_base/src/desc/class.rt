@@ -11,8 +11,11 @@ use crate::name::{Name, read_unit};
 use std::alloc::Global;
 
 const DOT: u16 = 0x2E;
+
 const SLASH: u16 = 0x2F;
+
 const SEMICOLON: u16 = 0x3B;
+
 const BRACKET: u16 = 0x5B;
 
 #[tactic(auto, unfolding(crate::specs::DescReading::letter_at, crate::specs::Reader::with_fault))]

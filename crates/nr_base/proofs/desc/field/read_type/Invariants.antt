@@ -1,4 +1,4 @@
-use Rattle.std.proofs.Common.{◌≡◌, ◌≤◌, ◌<◌, ◌^◌, ◌-◌, length}
+use Rattle.std.proofs.Common.{◌≡◌, ◌<◌, ◌^◌, ◌-◌, length}
 use Rattle.nr_base.specs.DescReading.{type_at}
 use Rattle.nr_base.proofs.desc.field.read_type.Given as goal
 
