@@ -7,13 +7,13 @@ use Rattle.nr_base.specs.Clauses.{Fails}
 use Rattle.nr_base.proofs.Exits.{fails_on}
 
 -- what is read at the end
-at_end : {S F : Type 0} (step : S → Reader F S) (k : ℕ) (s : S) (p : Place) → length p.rest ≡ 0 → until step k s p ≡ Ok (s, p)
+pub at_end : {S F : Type 0} (step : S → Reader F S) (k : ℕ) (s : S) (p : Place) → length p.rest ≡ 0 → until step k s p ≡ Ok (s, p)
 unfolding until
 at_end step zero s p e = refl
 at_end step (suc k) s p e = rw (eq-eqb (length p.rest) 0 e) refl
 
 -- one step before the end
-one : {S F : Type 0} (step : S → Reader F S) (k : ℕ) (s : S) (p : Place) → (length p.rest ≡ 0 → ⊥) → until step (suc k) s p ≡ after (step s p) (λ t. until step k t)
+pub one : {S F : Type 0} (step : S → Reader F S) (k : ℕ) (s : S) (p : Place) → (length p.rest ≡ 0 → ⊥) → until step (suc k) s p ≡ after (step s p) (λ t. until step k t)
 unfolding until
 one step k s p ne = rw (ne_eqb (length p.rest) 0 ne) refl
 

@@ -6,3 +6,15 @@ pub mod Laws
 pub mod Numbers
 pub mod Lists
 pub mod Takes
+pub mod Wholes
+pub mod ToEnd
+pub mod While
+pub mod Spans
+pub mod Units
+pub mod NameLaws
+pub mod DescTakes
+pub mod DescLoops
+pub mod ClassLaw
+pub mod ClassNames
+pub mod DescLaws
+pub mod MethodLaws

@@ -43,6 +43,19 @@ abbrev pub Times : {S : Type 0} → (S → Grammar S) → ℕ → S → Grammar 
 Times step zero s = give s
 Times step (suc k) s = Then (step s) (λ t. Times step k t)
 
+-- a step that says whether another one follows, with k more of them behind the first
+abbrev pub Repeat : {S : Type 0} → (S → Grammar (Bool × S)) → ℕ → S → Grammar S
+Repeat step zero s t text = step s (false, t) text
+Repeat step (suc k) s t text = Then (λ u front. step s (true, u) front) (λ u. Repeat step k u) t text
+
+-- a step until it says that none follows
+abbrev pub While : {S : Type 0} → (S → Grammar (Bool × S)) → S → Grammar S
+While step s t text = (k : ℕ) × Repeat step k s t text
+
+-- the text itself, in place of its value
+abbrev pub Spanned : {A : Type 0} → Grammar A → Grammar (List ℕ)
+Spanned {A = A} G bytes text = (x : A) × G x text × (bytes ≡ text)
+
 -- a text of each value, one behind the other
 abbrev pub Each : {A : Type 0} → Grammar A → Grammar (List A)
 Each G [] text = text ≡ []

@@ -3,3 +3,8 @@ pub mod Reader
 pub mod Bytes
 pub mod Clauses
 pub mod Grammar
+pub mod ModifiedUtf8
+pub mod Names
+pub mod LegalNames
+pub mod Descs
+pub mod DescReading

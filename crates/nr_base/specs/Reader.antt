@@ -1,5 +1,5 @@
 -- Reading as a function on places, and how readers are made of smaller ones. The project's own rule.
-use Rattle.std.specs.Prelude.{ℕ, zero, suc, List, [], ◌∷◌, ◌++◌, length, Bool, true, false, Result, Ok, Err, ◌+◌, ◌==◌, if◌then◌else◌, ◌≡◌, ◌<◌}
+use Rattle.std.specs.Prelude.{ℕ, zero, suc, List, [], ◌∷◌, ◌++◌, length, take, Bool, true, false, Result, Ok, Err, ◌+◌, ◌-◌, ◌==◌, if◌then◌else◌, ◌≡◌, ◌<◌}
 use Rattle.nr_base.specs.Place.{Place, at_of}
 
 -- What reading at a place gives: a value and the place behind it, or a fault.
@@ -69,6 +69,24 @@ until step (suc k) s p =
 -- a step until no byte is left
 unfoldable pub to_end : {S F : Type 0} → (S → Reader F S) → S → Reader F S
 to_end step s p = until step (length p.rest) s p
+
+-- a step that says whether another one follows: at most k more follow the first
+unfoldable pub repeat : {S F : Type 0} → (S → Reader F (Bool × S)) → ℕ → S → Reader F S
+repeat step zero s = bind (step s) (λ x. pure x.1)
+repeat step (suc k) s = bind (step s) (λ x. choose x.0 (repeat step k x.1) (pure x.1))
+
+-- A step until it says that none follows. One that uses up a byte or more can't follow more often
+-- than there are bytes.
+unfoldable pub while_more : {S F : Type 0} → (S → Reader F (Bool × S)) → S → Reader F S
+while_more step s p = repeat step (length p.rest) s p
+
+abbrev pub span_from : {A F : Type 0} → List ℕ → Result (A × Place) F → Result (List ℕ × Place) F
+span_from before (Ok x) = Ok (take (length before - length x.1.rest) before, x.1)
+span_from before (Err e) = Err e
+
+-- the bytes that a reader uses up, in place of its value
+unfoldable pub spanned : {A F : Type 0} → Reader F A → Reader F (List ℕ)
+spanned r p = span_from p.rest (r p)
 
 -- each time the step reads, it uses up a byte or more
 abbrev pub Advances : {S F : Type 0} → (S → Reader F S) → Type 0

@@ -2,6 +2,8 @@
 
 ghost use Rattle.std.specs.Prelude.{◌≡◌, ◌==◌, [], ◌∷◌, ◌++◌, length, OnOk, OnErr, IfOk};
 
+mod compared;
+
 use std::alloc::{AllocError, Global};
 use std::marker::Model;
 
