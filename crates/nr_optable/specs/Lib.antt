@@ -1,0 +1,4 @@
+pub mod Rows
+pub mod Tables
+pub mod Arithmetic
+pub mod Operations
