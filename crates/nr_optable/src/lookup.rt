@@ -1,7 +1,9 @@
 //! The row of a code, and the length of an instruction's operands.
 
-ghost use Rattle.std.specs.Prelude.{◌≡◌, ◌≢◌, ◌==◌, ◌↔◌, All, find, IsTrue, IsNone, length};
+ghost use Rattle.std.specs.Prelude.{◌≡◌, ◌≢◌, ◌==◌, ◌↔◌, All, Contains, find, IfSome, IsTrue, IsNone, length};
+ghost use Rattle.std.specs.List.{AllPass};
 ghost use Rattle.nr_optable.specs.Rows.{all_rows};
+ghost use Rattle.nr_optable.specs.Operations.{has_operation};
 ghost use Rattle.nr_optable.specs.Tables.{operand_bytes, rises};
 
 use crate::listing::rows;
@@ -9,6 +11,8 @@ use crate::table::{Row, Shape};
 
 fn find_in(rows: &[Row], code: u8) -> Option<Row>
     ensures found { result ≡ find (λ r. r.code == code) rows.now }
+    ensures listed { IfSome result (Contains rows.now) }
+    ensures code { IfSome result (λ r. r.code ≡ code) }
     ensures none { IsNone result ↔ All (λ r. r.code ≢ code) rows.now }
 {
     rows.iter().copied().find(|row| row.code == code)
@@ -17,6 +21,8 @@ fn find_in(rows: &[Row], code: u8) -> Option<Row>
 /// The row of the code, or `None` exactly for a code that the table doesn't list.
 pub fn row(code: u8) -> Option<Row>
     ensures found { result ≡ find (λ r. r.code == code) all_rows }
+    ensures listed { IfSome result (Contains all_rows) }
+    ensures code { IfSome result (λ r. r.code ≡ code) }
     ensures none { IsNone result ↔ All (λ r. r.code ≢ code) all_rows }
 {
     let listed = rows().rows;
@@ -43,4 +49,11 @@ pub fn shape_len(shape: Shape) -> Option<u8>
 pub fn codes_rise()
     ensures rise { IsTrue (rises all_rows) }
     ensures count { length all_rows ≡ 137 }
+{}
+
+/// Each instruction of the families with arithmetic has its operation in the list for its operands:
+/// ints or longs.
+#[tactic(auto, unfolding(crate::specs::Rows::all_rows))]
+pub fn operations_cover()
+    ensures { AllPass has_operation all_rows }
 {}
