@@ -1,6 +1,6 @@
 -- Arithmetic on ints (w32) and longs (w64), two's complement numbers that wrap (JVM Specification 2.3.1 and 6.5).
 use Rattle.std.specs.Prelude.{ℕ, ◌*◌, ◌/◌, ◌%◌, ◌^◌, ℤ, pos, negsuc, ◌+ℤ◌, ◌-ℤ◌, ◌*ℤ◌, neg_ℤ, Bool, not, int_lt, int_le, int_div, int_rem, if◌then◌else◌}
-use Rattle.std.specs.Int.{Width, w8, w16, w32, byte_len, int_wrap, int_shl, int_shr, cast_signed, cast_unsigned}
+use Rattle.std.specs.Int.{Width, w32, byte_len, int_wrap, int_shl, int_shr, cast_signed, cast_unsigned}
 use Rattle.std.specs.Ordering.{int_eq}
 
 -- iadd, ladd, isub, lsub, imul, lmul: what is left of the exact result in the type's bits

@@ -1,6 +1,6 @@
 -- The arithmetic of an instruction, by its code (JVM Specification 6.5).
 use Rattle.std.specs.Prelude.{ℕ, ℤ, pos, Bool, true, ◌||◌, is_some, List, [], ◌∷◌, Option, Some, None, ◌==◌, if◌then◌else◌}
-use Rattle.std.specs.Int.{Width, w8, w16, w32, w64, int_wrap, int_bit_and, int_bit_or, int_bit_xor}
+use Rattle.std.specs.Int.{w8, w16, w32, w64, int_wrap, int_bit_and, int_bit_or, int_bit_xor}
 use Rattle.nr_optable.specs.declared.table.Row.{Row}
 use Rattle.nr_optable.specs.declared.table.Family.{Family}
 use Rattle.nr_optable.specs.declared.table.Family.TheVariants.{F5, F20, F22, F23, F25, F26}
