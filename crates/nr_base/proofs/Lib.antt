@@ -1,0 +1,14 @@
+pub mod Exits
+pub mod Loops
+pub mod Ends
+pub mod Bytes
+pub mod Laws
+pub mod Numbers
+pub mod Lists
+pub mod Takes
+pub mod Wholes
+pub mod ToEnd
+pub mod While
+pub mod Spans
+pub mod Units
+pub mod NameLaws

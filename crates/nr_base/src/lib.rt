@@ -1,0 +1,12 @@
+//! Places, readers, writers and grammars; names and descriptors.
+#![tactic(auto)]
+
+mod cur;
+mod items;
+mod name;
+mod put;
+
+pub use cur::{Cur, Short};
+pub use items::Items;
+pub use name::{Name, NameFault};
+pub use put::Put;
