@@ -1,0 +1,12 @@
+//! Classes as values: the parts of a class file, and the rules of its form (JVM Specification 4).
+#![tactic(auto)]
+
+mod fault;
+mod member;
+mod parts;
+mod pool;
+
+pub use fault::FormFault;
+pub use member::{Code, Field, Handler, Method};
+pub use parts::ClassParts;
+pub use pool::PoolEntry;
