@@ -5,13 +5,12 @@ use Rattle.std.specs.List.{AllByRecursion, flat_map}
 use Rattle.std.specs.Int.{w8}
 use Rattle.nr_base.specs.Place.{Place, start_of}
 use Rattle.nr_base.specs.Reader.{onto, bind, pure, to_end, after, Advances}
-use Rattle.nr_base.specs.Clauses.{Fails, GivesWhole}
+use Rattle.nr_base.specs.Clauses.{GivesWhole}
 use Rattle.nr_base.specs.Grammar.{IsBytes, Each}
 use Rattle.nr_base.specs.ModifiedUtf8.{within, unit_bytes, IsUnit, IsModifiedUtf8, unit}
 use Rattle.nr_base.specs.Names.{is_free, byte_at, six_bits_at, two_at, three_at, unit_at, units_of, named, name_of}
 use Rattle.nr_base.specs.declared.name.fault.NameFault.{NameFault}
 use Rattle.nr_base.specs.declared.name.fault.NameFault.TheVariants as faults
-use Rattle.nr_base.proofs.Exits.{fails_on}
 use Rattle.nr_base.proofs.Takes.{TakesAll, pure_takes, refuse_takes, bind_takes, choose_takes, fewer_takes, from_takes, with_fault_takes, number_takes, onto_takes, advances}
 use Rattle.nr_base.proofs.Ends.{goes_on_to_end, stops_to_end, ends}
 use Rattle.nr_base.proofs.ToEnd.{to_end_found, to_end_only}
@@ -109,9 +108,8 @@ pub record IsScanned (p : Place) (total : Result (List ℕ × Place) NameFault) 
 pub scans_on : (u : ℕ) (p q : Place) (total : Result (List ℕ × Place) NameFault) → (length p.rest ≡ 0 → ⊥) → unit_at p ≡ Ok (u, q) → IsScanned p total → IsScanned q total
 scans_on u p q total ne e s = record { units = s.units ++ u ∷ []; rest_gives = goes_on_to_end (onto unit_at) steps s.units (s.units ++ u ∷ []) p q total ne (onto_ok s.units u p q e) s.rest_gives }
 
-pub scan_stops : (p : Place) (d : NameFault) (total : Result (List ℕ × Place) NameFault) (bytes : List ℕ) → (length p.rest ≡ 0 → ⊥) → Fails is_free d (unit_at p) → IsScanned p total → Fails is_free d (named bytes total)
-scan_stops p d total bytes ne f s =
-    fails_on is_free d (unit_at p) (named bytes total) (λ e. ap (named bytes) (stops_to_end (onto unit_at) s.units p d total ne (onto_err s.units p d e) s.rest_gives)) f
+pub scan_stops : (p : Place) (d : NameFault) (total : Result (List ℕ × Place) NameFault) (bytes : List ℕ) → (length p.rest ≡ 0 → ⊥) → unit_at p ≡ Err d → IsScanned p total → named bytes total ≡ Err d
+scan_stops p d total bytes ne e s = ap (named bytes) (stops_to_end (onto unit_at) s.units p d total ne (onto_err s.units p d e) s.rest_gives)
 
 pub scan_ends : (p : Place) (total : Result (List ℕ × Place) NameFault) (bytes : List ℕ) → length p.rest ≡ 0 → IsScanned p total → named bytes total ≡ Ok bytes
 scan_ends p total bytes e s = ap (named bytes) (ends (onto unit_at) s.units p total e s.rest_gives)

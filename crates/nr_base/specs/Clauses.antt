@@ -1,5 +1,5 @@
 -- What calls that read owe their callers.
-use Rattle.std.specs.Prelude.{◌≡◌, Bool, Result, Ok, Err}
+use Rattle.std.specs.Prelude.{◌≡◌, Bool, false, Result, Ok, Err}
 use Rattle.std.specs.Bool.{MatchBool}
 use Rattle.nr_base.specs.Place.{Place}
 
@@ -7,6 +7,10 @@ use Rattle.nr_base.specs.Place.{Place}
 abbrev pub TakesItem : {X Y E : Type 0} → (X → Y) → Result X E → Place → Place → Result (Y × Place) E → Type 0
 TakesItem view (Ok x) old new read = read ≡ Ok (view x, new)
 TakesItem view (Err e) old new read = (read ≡ Err e) × (new ≡ old)
+
+-- no fault may come at any time: the call takes no memory
+abbrev pub none_free : {F : Type 0} → F → Bool
+none_free e = false
 
 -- A call failed by e: so does reading, unless e may come at any time, as want of memory.
 abbrev pub Fails : {A F : Type 0} → (F → Bool) → F → Result A F → Type 0

@@ -5,3 +5,6 @@ pub mod Clauses
 pub mod Grammar
 pub mod ModifiedUtf8
 pub mod Names
+pub mod LegalNames
+pub mod Descs
+pub mod DescReading

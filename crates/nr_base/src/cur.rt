@@ -5,6 +5,7 @@ ghost use Rattle.std.specs.Int.{w8, w16, w32, w64};
 ghost use Rattle.nr_base.specs.Place.{at_of, start_of};
 ghost use Rattle.nr_base.specs.Bytes.{number_at, run_at};
 ghost use Rattle.nr_base.specs.Clauses.{TakesItem};
+ghost use Rattle.nr_base.specs.Grammar.{IsBytes};
 
 use byteorder::{BigEndian, ByteOrder};
 use std::marker::Model;
@@ -25,13 +26,14 @@ pub struct Cur<'a> {
 
 impl<'a> Model for Cur<'a> {
     ghost use Rattle.std.specs.Prelude.{◌≤◌, length};
+    ghost use Rattle.nr_base.specs.Grammar.{IsBytes};
     ghost use Rattle.nr_base.specs.Place.{Place};
 
     ghost Value = { Place };
 
     ghost view = { λ c. record { total = c.total; rest = c.rest.now } };
 
-    ghost invariant = { λ c. length c.rest.now ≤ c.total };
+    ghost invariant = { λ c. (length c.rest.now ≤ c.total) × IsBytes c.rest.now };
 }
 
 impl<'a> Cur<'a> {
@@ -59,6 +61,14 @@ impl<'a> Cur<'a> {
     {
         let _total = self.total;
         self.rest.len() as u32
+    }
+
+    /// The bytes that are left.
+    pub fn rest(&self) -> &'a [u8]
+        ensures bytes { result.now ≡ self.now.rest }
+        ensures fits { IsBytes result.now }
+    {
+        self.rest
     }
 
     /// Whether no byte is left.

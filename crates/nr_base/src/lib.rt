@@ -2,11 +2,13 @@
 #![tactic(auto)]
 
 mod cur;
+mod desc;
 mod items;
 mod name;
 mod put;
 
 pub use cur::{Cur, Short};
+pub use desc::{Desc, DescBase, DescFault, MethodDesc};
 pub use items::Items;
 pub use name::{Name, NameFault};
 pub use put::Put;

@@ -1,9 +1,9 @@
 //! Names.
 
-ghost use Rattle.std.specs.Prelude.{◌≡◌, ◌<◌, ◌^◌, length, IfOk, ℕ, List};
-ghost use Rattle.nr_base.specs.Clauses.{GivesWhole, GivesWholeBy};
+ghost use Rattle.std.specs.Prelude.{◌≡◌, ◌<◌, ◌^◌, length, IsTrue, IfOk};
+ghost use Rattle.nr_base.specs.Clauses.{GivesWhole, GivesWholeBy, none_free};
 ghost use Rattle.nr_base.specs.ModifiedUtf8.{IsModifiedUtf8};
-ghost use Rattle.nr_base.specs.Names.{is_free, name_of};
+ghost use Rattle.nr_base.specs.Names.{is_free, is_name, name_of};
 
 mod fault;
 mod unit;
@@ -22,7 +22,7 @@ pub struct Name {
 }
 
 impl Model for Name {
-    ghost use Rattle.std.specs.Prelude.{ℕ, List, IsTrue};
+    ghost use Rattle.std.specs.Prelude.{ℕ, ◌<◌, ◌^◌, List, length, IsTrue};
     ghost use Rattle.nr_base.specs.Grammar.{IsBytes};
     ghost use Rattle.nr_base.specs.Names.{is_name};
 
@@ -30,7 +30,7 @@ impl Model for Name {
 
     ghost view = { λ n. n.bytes };
 
-    ghost invariant = { λ n. IsTrue (is_name n.bytes) × IsBytes n.bytes };
+    ghost invariant = { λ n. IsTrue (is_name n.bytes) × IsBytes n.bytes × (length n.bytes < 2 ^ 16) };
 
     ghost inverse = { λ bytes. record { bytes = bytes } };
 }
@@ -39,7 +39,7 @@ impl Model for Name {
 #[tactic(auto, using(crate::proofs::NameLaws::scans_on, crate::proofs::NameLaws::scan_stops, crate::proofs::NameLaws::scan_ends, crate::proofs::NameLaws::unit_smaller))]
 fn check(bytes: &[u8]) -> Result<(), NameFault>
     requires { length bytes.now < 2 ^ 16 }
-    ensures { GivesWholeBy is_free (λ _. bytes.now) result (name_of bytes.now) }
+    ensures { GivesWholeBy none_free (λ _. bytes.now) result (name_of bytes.now) }
 {
     let mut cur = Cur::new(bytes);
     while !cur.is_empty() {
@@ -53,9 +53,7 @@ fn checked(alloc: Global, bytes: &[u8]) -> Result<Name, NameFault>
     ensures { GivesWhole is_free result (name_of bytes.now) }
 {
     check(bytes)?;
-    Ok(Name {
-        bytes: Items::of(alloc, bytes)?,
-    })
+    Ok(Name::copy_of(alloc, bytes)?)
 }
 
 impl Name {
@@ -74,10 +72,22 @@ impl Name {
         checked(alloc, bytes)
     }
 
+    /// The name of bytes that are known to be one. The error comes only for want of memory.
+    pub(crate) fn copy_of(alloc: Global, bytes: &[u8]) -> Result<Name, AllocError>
+        requires short { length bytes.now < 2 ^ 16 }
+        requires legal { IsTrue (is_name bytes.now) }
+        ensures { IfOk result (λ name. name ≡ bytes.now) }
+    {
+        Ok(Name {
+            bytes: Items::of(alloc, bytes)?,
+        })
+    }
+
     /// The bytes of the name, in modified UTF-8.
     pub fn as_bytes(&self) -> &[u8]
         ensures bytes { result.now ≡ self.now }
         ensures legal { IsModifiedUtf8 self.now }
+        ensures short { length self.now < 2 ^ 16 }
     {
         self.bytes.as_slice()
     }
