@@ -1,3 +1,6 @@
 pub mod Pool
 pub mod Faults
+pub mod Legal
+pub mod Members
 pub mod Rules
+pub mod Seen

@@ -1,5 +1,5 @@
 -- The constant pool: JVM Specification 4.4.
-use Rattle.std.specs.Prelude.{ℕ, zero, suc, ◌+◌, ◌-◌, List, [], Option, Some, None, Bool, true, false, ◌&&◌, slice_get}
+use Rattle.std.specs.Prelude.{ℕ, zero, suc, ◌+◌, ◌-◌, List, length, Option, Some, None, Bool, true, false, ◌&&◌, slice_get}
 use Rattle.std.specs.Option.{option_map_or}
 use Rattle.nr_prog.specs.declared.pool.PoolEntry.{PoolEntry}
 use Rattle.nr_prog.specs.declared.pool.PoolEntry.TheVariants.{Utf8, Integer, Float, Long, Double, Class, Str, FieldRef, MethodRef, InterfaceMethodRef, NameAndType, Unused}
@@ -72,3 +72,8 @@ text_in e = None
 -- the bytes of the Utf8 entry at the index, and none where no such entry stands there
 unfoldable pub text_at : List PoolEntry → ℕ → Option (List ℕ)
 text_at pool index = option_map_or text_in (entry_at pool index) None
+
+-- how many bytes the entry's text has
+abbrev pub text_len : PoolEntry → ℕ
+text_len (Utf8 bytes) = length bytes
+text_len e = 0

@@ -1,6 +1,8 @@
 //! The constant pool.
 
-mod formed;
+mod entries;
+
+pub use entries::{entry, text};
 
 use nr_base::Items;
 

@@ -1,20 +1,12 @@
 //! What each entry of a constant pool owes.
 
-ghost use Rattle.std.specs.Prelude.{◌≡◌, ◌+◌, ◌<◌, ◌≤◌, ◌^◌, length, option_copied};
-ghost use Rattle.nr_prog.specs.Pool.{entry_at, names, is_class, is_entry_formed, is_name_and_type, is_unused, is_utf8, is_wide};
+ghost use Rattle.std.specs.Prelude.{◌≡◌, ◌+◌, ◌<◌, ◌≤◌, ◌^◌, length};
+ghost use Rattle.nr_prog.specs.Pool.{names, is_class, is_entry_formed, is_name_and_type, is_unused, is_utf8, is_wide};
 ghost use Rattle.nr_prog.specs.Faults.{Finds};
 ghost use Rattle.nr_prog.specs.Rules.{pool_fault};
 
 use crate::fault::FormFault;
-use crate::pool::PoolEntry;
-
-/// The entry at an index, which counts from 1.
-pub fn entry(pool: &[PoolEntry], index: usize) -> Option<&PoolEntry>
-    ensures { option_copied result ≡ entry_at pool.now index }
-{
-    let place = index.checked_sub(1)?;
-    pool.get(place)
-}
+use crate::pool::{PoolEntry, entry};
 
 fn names_utf8(pool: &[PoolEntry], index: u16) -> bool
     ensures { result ≡ names is_utf8 pool.now index }
