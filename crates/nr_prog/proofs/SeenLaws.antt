@@ -85,3 +85,7 @@ pub has_more : (s t : BTreeSet Pair) (name desc : Bor (List ℕ)) → t.keys ≡
 unfolding has
 has_more s t name desc e n d =
     ap (list_any (λ (q : Pair). is_pair n d q.0.now q.1.now)) e ∙ insert_any n d s.keys (name, desc) ∙ turned (is_pair n d name.now desc.now) _
+
+pub has_none : (s : BTreeSet Pair) → s.keys ≡ [] → (n d : List ℕ) → has s n d ≡ false
+unfolding has
+has_none s e n d = ap (list_any (λ (q : Pair). is_pair n d q.0.now q.1.now)) e

@@ -33,12 +33,9 @@ is_class_named pool index = names (names_class_of pool) pool index
 unfoldable pub is_spelled : List PoolEntry → List ℕ → List ℕ → ℕ → ℕ → Bool
 is_spelled pool name desc n d = spells (bytes_eq name) pool n && spells (bytes_eq desc) pool d
 
--- whether a field of the list has this name and this descriptor
-unfoldable pub is_field_in : List PoolEntry → List Field → List ℕ → List ℕ → Bool
-is_field_in pool fields name desc = list_any (λ f. is_spelled pool name desc f.name f.desc) fields
-
-unfoldable pub is_method_in : List PoolEntry → List Method → List ℕ → List ℕ → Bool
-is_method_in pool methods name desc = list_any (λ m. is_spelled pool name desc m.name m.desc) methods
+-- whether a member of the list has this name and this descriptor
+unfoldable pub is_in : {X : Type 0} → (X → ℕ) → (X → ℕ) → List PoolEntry → List X → List ℕ → List ℕ → Bool
+is_in name_of desc_of pool members name desc = list_any (λ m. is_spelled pool name desc (name_of m) (desc_of m)) members
 
 -- whether the texts that the indices name are a name and a descriptor of the earlier members
 unfoldable pub is_among : (List ℕ → List ℕ → Bool) → List PoolEntry → ℕ → ℕ → Bool
@@ -81,23 +78,27 @@ abbrev pub is_abstract : ℕ → Bool
 is_abstract flags = has_flag 0x0400 flags
 
 -- an instance initialiser is neither static nor abstract, and returns nothing (2.9)
-abbrev pub is_initialiser_formed : List PoolEntry → Method → Bool
-is_initialiser_formed pool m =
-    not (spells (bytes_eq (codes "<init>")) pool m.name)
-    || (not (is_static m.flags) && not (is_abstract m.flags) && spells is_void_desc pool m.desc)
+abbrev pub is_initialiser_formed : List ℕ → Bool → ℕ → Bool
+is_initialiser_formed name void flags =
+    not (bytes_eq name (codes "<init>")) || (not (is_static flags) && not (is_abstract flags) && void)
 
--- the bytes of code are 1 to 65,535 (4.7.3; 65,536 is one more than it takes there)
-abbrev pub is_code_long_enough : Option Code → Bool
-is_code_long_enough None = true
-is_code_long_enough (Some code) = nat_lt 0 (length code.bytes) && nat_lt (length code.bytes) 65536
+-- code has 1 to 65,535 bytes (4.7.3; the project's own rule leaves out 65,536 and more)
+abbrev pub is_code_sized : Option Code → Bool
+is_code_sized None = true
+is_code_sized (Some code) = nat_lt 0 (length code.bytes) && nat_le (length code.bytes) 65535
 
--- Not native, not synchronized, and not both static and abstract: the profile is the project's own.
-unfoldable pub is_in_profile : List PoolEntry → Method → Bool
-is_in_profile pool m =
+-- A method of the name, which returns nothing or something: not native, not synchronized, not both static and
+-- abstract. The profile is the project's own.
+unfoldable pub is_in_profile : List ℕ → Bool → Method → Bool
+is_in_profile name void m =
     not (is_native m.flags) && not (is_synchronized m.flags)
     && not (is_static m.flags && is_abstract m.flags)
-    && is_initialiser_formed pool m
-    && is_code_long_enough m.code
+    && is_initialiser_formed name void m.flags
+    && is_code_sized m.code
+
+-- the same, of the name and the descriptor that the method's indices name
+unfoldable pub is_profile_method : List PoolEntry → Method → Bool
+is_profile_method pool m = spells (λ name. spells (λ desc. is_in_profile name (is_void_desc desc) m) pool m.desc) pool m.name
 
 -- a method has code exactly where it isn't abstract (4.7.3)
 unfoldable pub has_its_code : Method → Bool

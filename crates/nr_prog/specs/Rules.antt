@@ -11,7 +11,7 @@ use Rattle.nr_prog.specs.declared.fault.FormFault.TheVariants.{PoolKind, BadName
 use Rattle.nr_prog.specs.Pool.{is_entry_formed, text_len}
 use Rattle.nr_prog.specs.Faults.{first_fault, unless}
 use Rattle.nr_prog.specs.Legal.{is_field_text, is_method_text, is_field_desc, is_method_desc}
-use Rattle.nr_prog.specs.Members.{spells, is_class_named, is_field_in, is_method_in, is_among, is_constant_formed, is_in_profile, has_its_code}
+use Rattle.nr_prog.specs.Members.{spells, is_class_named, is_in, is_among, is_constant_formed, is_profile_method, has_its_code}
 
 -- ---- the constant pool
 
@@ -35,6 +35,10 @@ classes_fault pool this above interfaces =
 
 -- ---- fields and methods
 
+-- the first fault of members, each of which is told which earlier ones there are
+abbrev pub members_fault : {X : Type 0} → (X → ℕ) → (X → ℕ) → ((List ℕ → List ℕ → Bool) → ℕ → X → Option FormFault) → List PoolEntry → List X → Option FormFault
+members_fault name_of desc_of fault pool members = first_fault (λ place m. fault (is_in name_of desc_of pool (take place members)) place m) 0 members
+
 -- a legal name, a legal descriptor, and not both of them earlier
 unfoldable pub name_fault : (List ℕ → Bool) → List PoolEntry → ℕ → Option FormFault
 name_fault is_legal pool index = unless (spells is_legal pool index) (BadName index)
@@ -56,10 +60,10 @@ field_fault pool earlier f =
     (constant_fault pool f.desc f.constant)))
 
 unfoldable pub fields_fault : List PoolEntry → List Field → Option FormFault
-fields_fault pool fields = first_fault (λ place f. field_fault pool (is_field_in pool (take place fields)) f) 0 fields
+fields_fault pool fields = members_fault (λ f. f.name) (λ f. f.desc) (λ earlier place. field_fault pool earlier) pool fields
 
 unfoldable pub body_fault : List PoolEntry → ℕ → Method → Option FormFault
-body_fault pool place m = option_or (unless (is_in_profile pool m) (OutOfProfile place)) (unless (has_its_code m) (CodePresence place))
+body_fault pool place m = option_or (unless (is_profile_method pool m) (OutOfProfile place)) (unless (has_its_code m) (CodePresence place))
 
 unfoldable pub method_fault : List PoolEntry → (List ℕ → List ℕ → Bool) → ℕ → Method → Option FormFault
 method_fault pool earlier place m =
@@ -69,7 +73,7 @@ method_fault pool earlier place m =
     (body_fault pool place m)))
 
 unfoldable pub methods_fault : List PoolEntry → List Method → Option FormFault
-methods_fault pool methods = first_fault (λ place m. method_fault pool (is_method_in pool (take place methods)) place m) 0 methods
+methods_fault pool methods = members_fault (λ m. m.name) (λ m. m.desc) (method_fault pool) pool methods
 
 -- ---- the whole
 

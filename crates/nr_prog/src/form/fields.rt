@@ -45,3 +45,38 @@ fn descriptor(alloc: Global, pool: &[PoolEntry], index: u16) -> Result<&[u8], Fo
     }
 }
 
+
+#[tactic(auto, using(crate::proofs::Walks::fails_first, crate::proofs::Members::among_at, crate::proofs::Members::spelled_at), unfolding(crate::specs::Rules::field_fault, crate::specs::Rules::doubled_fault))]
+fn check_field<'a>(
+    alloc: Global,
+    pool: &'a [PoolEntry],
+    field: &Field,
+    seen: &mut BTreeSet<(&'a [u8], &'a [u8])>,
+) -> Result<(), FormFault>
+    requires { All (λ e. text_len e < 2 ^ 16) pool.now }
+    ensures fault { Finds result (field_fault pool.now (has seen.old) field.now) }
+    ensures seen { OnOk result ((n d : List ℕ) → has seen.new n d ≡ (has seen.old n d || is_spelled pool.now n d field.now.name field.now.desc)) }
+{
+    let name = name(pool, field.name)?;
+    let desc = descriptor(alloc, pool, field.desc)?;
+    if !add(seen, name, desc)? {
+        return Err(FormFault::Doubled(field.name));
+    }
+    check_constant(pool, field, desc)
+}
+
+/// Looks at each field, in order (JVM Specification 4.5).
+pub fn check_fields(
+    alloc: Global,
+    pool: &[PoolEntry],
+    fields: &[Field],
+) -> Result<(), FormFault>
+    requires { All (λ e. text_len e < 2 ^ 16) pool.now }
+    ensures { Finds result (fields_fault pool.now fields.now) }
+{
+    let mut seen = BTreeSet::new(alloc);
+    for field in fields {
+        check_field(alloc, pool, field, &mut seen)?;
+    }
+    Ok(())
+}
