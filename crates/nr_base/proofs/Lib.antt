@@ -12,3 +12,9 @@ pub mod While
 pub mod Spans
 pub mod Units
 pub mod NameLaws
+pub mod DescTakes
+pub mod DescLoops
+pub mod ClassLaw
+pub mod ClassNames
+pub mod DescLaws
+pub mod MethodLaws

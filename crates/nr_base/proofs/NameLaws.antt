@@ -116,3 +116,6 @@ scan_ends p total bytes e s = ap (named bytes) (ends (onto unit_at) s.units p to
 
 pub unit_smaller : (u : ℕ) (p q : Place) → unit_at p ≡ Ok (u, q) → length q.rest < length p.rest
 unit_smaller u p q e = omega (arith, unit_takes.takes p q u e)
+
+pub is_name_only : (bytes : List ℕ) → IsModifiedUtf8 bytes → is_ok (units_of bytes) ≡ true
+is_name_only bytes m = ap is_ok (units_only bytes m)

@@ -6,12 +6,12 @@ use Rattle.nr_base.specs.Reader.{Reader, span_from, spanned}
 use Rattle.nr_base.specs.Grammar.{Spanned}
 use Rattle.nr_base.proofs.Laws.{Reads, place, ok_is}
 
-record SpanOk {A F : Type 0} (before : List ℕ) (r : Result (A × Place) F) (bytes : List ℕ) (q : Place) : Type 0 where
-  value : A
-  was : r ≡ Ok (value, q)
-  bytes_are : take (length before - length q.rest) before ≡ bytes
+pub record SpanOk {A F : Type 0} (before : List ℕ) (r : Result (A × Place) F) (bytes : List ℕ) (q : Place) : Type 0 where
+  pub value : A
+  pub was : r ≡ Ok (value, q)
+  pub bytes_are : take (length before - length q.rest) before ≡ bytes
 
-span_ok : {A F : Type 0} (before : List ℕ) (r : Result (A × Place) F) (bytes : List ℕ) (q : Place) → span_from before r ≡ Ok (bytes, q) → SpanOk before r bytes q
+pub span_ok : {A F : Type 0} (before : List ℕ) (r : Result (A × Place) F) (bytes : List ℕ) (q : Place) → span_from before r ≡ Ok (bytes, q) → SpanOk before r bytes q
 span_ok before (Ok x) bytes q e =
     let is = ok_is _ _ e in
     let at : x.1 ≡ q = ap (λ (a : List ℕ × Place). a.1) is in

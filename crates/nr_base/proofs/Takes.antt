@@ -1,12 +1,13 @@
 -- Readers that use up so many bytes or more, and that none gives bytes back.
-use Rattle.std.proofs.Common.{◌≡◌, ℕ, ◌+◌, ◌≤◌, Bool, true, false, ltb, List, [], ◌∷◌, ◌++◌, length, take, Ok, ap, arith}
+use Rattle.std.proofs.Common.{◌≡◌, ℕ, zero, suc, ◌+◌, ◌≤◌, Bool, true, false, ltb, List, [], ◌∷◌, ◌++◌, length, take, Ok, ap, arith}
 use Rattle.std.specs.Int.{Width, byte_len, from_be_bytes}
 use Rattle.std.proofs.lemmas.Bool.{ltb-false}
 use Rattle.std.proofs.lemmas.List.{length-drop}
 use Rattle.nr_base.specs.Place.{Place, at_of, skip}
 use Rattle.nr_base.specs.Bytes.{number_at, run_at, short_at}
-use Rattle.nr_base.specs.Reader.{Reader, bind, pure, refuse, choose, from, with_fault, onto, Advances}
+use Rattle.nr_base.specs.Reader.{Reader, bind, pure, refuse, choose, from, with_fault, onto, repeat, while_more, spanned, Advances}
 use Rattle.nr_base.proofs.Laws.{bind_ok, guard_ok, ok_is, map_fault_ok}
+use Rattle.nr_base.proofs.Spans.{span_ok}
 
 pub record TakesAll {A F : Type 0} (n : ℕ) (r : Reader F A) : Type 0 where
   pub takes : (p q : Place) (x : A) → r p ≡ Ok (x, q) → n + length q.rest ≤ length p.rest
@@ -65,3 +66,16 @@ onto_takes n rs xs = fewer_takes (n + 0) n (omega arith) (bind_takes n 0 rs (λ 
 
 pub advances : {S F : Type 0} {step : S → Reader F S} → ((s : S) → TakesAll 1 (step s)) → Advances step
 advances rs s t p q e = omega (arith, (rs s).takes p q t e)
+
+pub spanned_takes : {A F : Type 0} (n : ℕ) {r : Reader F A} → TakesAll n r → TakesAll n (spanned r)
+unfolding spanned
+spanned_takes n {r = r} rs = record { takes = λ p q x e. let s = span_ok p.rest (r p) x q e in rs.takes p q s.value s.was }
+
+repeat_takes : {S F : Type 0} (step : S → Reader F (Bool × S)) → ((s : S) → TakesAll 1 (step s)) → (k : ℕ) (s : S) → TakesAll 1 (repeat step k s)
+unfolding repeat
+repeat_takes step takes zero s = bind_takes 1 0 (takes s) (λ x. pure_takes x.1)
+repeat_takes step takes (suc k) s = bind_takes 1 0 (takes s) (λ x. choose_takes 0 x.0 (fewer_takes 1 0 (omega arith) (repeat_takes step takes k x.1)) (pure_takes x.1))
+
+pub while_takes : {S F : Type 0} (step : S → Reader F (Bool × S)) → ((s : S) → TakesAll 1 (step s)) → (s : S) → TakesAll 1 (while_more step s)
+unfolding while_more
+while_takes step takes s = record { takes = λ p q x e. (repeat_takes step takes (length p.rest) s).takes p q x e }

@@ -120,13 +120,13 @@ parts = Then (number w8) (λ first. pick (within 1 0x7F first) (give first)
     (pick (within 0xC0 0xDF first) (two (first - 0xC0))
     (pick (within 0xE0 0xEF first) (three (first - 0xE0)) none)))
 
-one_bytes : (u : ℕ) → 1 ≤ u → u ≤ 0x7F → unit_bytes u ≡ u ∷ []
+pub one_bytes : (u : ℕ) → 1 ≤ u → u ≤ 0x7F → unit_bytes u ≡ u ∷ []
 one_bytes u p q = rw (within_is 1 0x7F u p q) refl
 
-two_bytes : (u : ℕ) → 0x7F < u → u ≤ 0x7FF → unit_bytes u ≡ (0xC0 + u / 64) ∷ (0x80 + u % 64) ∷ []
+pub two_bytes : (u : ℕ) → 0x7F < u → u ≤ 0x7FF → unit_bytes u ≡ (0xC0 + u / 64) ∷ (0x80 + u % 64) ∷ []
 two_bytes u p q = rw (within_above 1 0x7F u p, le-leb u 0x7FF q) refl
 
-three_bytes : (u : ℕ) → 0x7FF < u → unit_bytes u ≡ (0xE0 + u / 4096) ∷ (0x80 + u / 64 % 64) ∷ (0x80 + u % 64) ∷ []
+pub three_bytes : (u : ℕ) → 0x7FF < u → unit_bytes u ≡ (0xE0 + u / 4096) ∷ (0x80 + u / 64 % 64) ∷ (0x80 + u % 64) ∷ []
 three_bytes u p = rw (within_above 1 0x7F u (omega arith), lt-leb u 0x7FF p) refl
 
 both : (a b x y : ℕ) → a ≡ x → b ≡ y → a ∷ b ∷ [] ≡ x ∷ y ∷ []

@@ -52,17 +52,18 @@ enough step takes (suc k) (suc j) s p lk lj =
 
 -- ---- the loop
 
-pub goes_on_while : {S F : Type 0} (step : Step S F) → TakesOne step → (s t : S) (p q : Place) (total : Result (S × Place) F) → step s p ≡ Ok ((true, t), q) → while_more step s p ≡ total → while_more step t q ≡ total
+pub goes_on_while : {S F : Type 0} (step : Step S F) → TakesOne step → (s t : S) (p q : Place) (total : Result (S × Place) F) (more : Bool) → more ≡ true → step s p ≡ Ok ((more, t), q) → while_more step s p ≡ total → while_more step t q ≡ total
 unfolding while_more
-goes_on_while step takes s t p q total e so_far =
+goes_on_while step takes s t p q total more is e' so_far =
+    let e : step s p ≡ Ok ((true, t), q) = e' ∙ ap (λ z. Ok ((z, t), q)) is in
     let less = (takes s).takes p q (true, t) e in
     let k : length p.rest ≤ suc (length p.rest) = omega arith in
-    let more : repeat step (suc (length p.rest)) s p ≡ repeat step (length p.rest) t q = one step (suc (length p.rest)) s p ∙ ap (λ r. after r (next step (suc (length p.rest)))) e ∙ goes_here step (length p.rest) t q in
-    enough step takes (length q.rest) (length p.rest) t q (omega arith) (omega (arith, less)) ∙ sym more ∙ enough step takes (suc (length p.rest)) (length p.rest) s p k (omega arith) ∙ so_far
+    let after_one : repeat step (suc (length p.rest)) s p ≡ repeat step (length p.rest) t q = one step (suc (length p.rest)) s p ∙ ap (λ r. after r (next step (suc (length p.rest)))) e ∙ goes_here step (length p.rest) t q in
+    enough step takes (length q.rest) (length p.rest) t q (omega arith) (omega (arith, less)) ∙ sym after_one ∙ enough step takes (suc (length p.rest)) (length p.rest) s p k (omega arith) ∙ so_far
 
-pub ends_while : {S F : Type 0} (step : Step S F) (s t : S) (p q : Place) (total : Result (S × Place) F) → step s p ≡ Ok ((false, t), q) → while_more step s p ≡ total → total ≡ Ok (t, q)
+pub ends_while : {S F : Type 0} (step : Step S F) (s t : S) (p q : Place) (total : Result (S × Place) F) (more : Bool) → more ≡ false → step s p ≡ Ok ((more, t), q) → while_more step s p ≡ total → total ≡ Ok (t, q)
 unfolding while_more
-ends_while step s t p q total e so_far = sym so_far ∙ one step (length p.rest) s p ∙ ap (λ r. after r (next step (length p.rest))) e ∙ ends_here step (length p.rest) t q
+ends_while step s t p q total more is e so_far = sym so_far ∙ one step (length p.rest) s p ∙ ap (λ r. after r (next step (length p.rest))) (e ∙ ap (λ z. Ok ((z, t), q)) is) ∙ ends_here step (length p.rest) t q
 
 pub stops_while : {S F : Type 0} (step : Step S F) (s : S) (p : Place) (d : F) (total : Result (S × Place) F) → step s p ≡ Err d → while_more step s p ≡ total → total ≡ Err d
 unfolding while_more

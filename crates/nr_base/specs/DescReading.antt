@@ -1,7 +1,7 @@
 -- Reading descriptors from left to right, with the first fault.
 use Rattle.std.specs.Prelude.{ℕ, zero, suc, ◌-◌, List, [], ◌∷◌, ◌++◌, length, take, Bool, true, false, Option, Some, None, Result, Ok, Err, nat_lt, ◌==◌, ◌||◌, if◌then◌else◌}
 use Rattle.std.specs.Int.{w8}
-use Rattle.nr_base.specs.Reader.{Reader, ◌>>=◌, bind, pure, refuse, choose, from, with_fault, while_more, spanned, whole}
+use Rattle.nr_base.specs.Reader.{Reader, ◌>>=◌, pure, refuse, choose, from, with_fault, while_more, spanned, whole}
 use Rattle.nr_base.specs.Bytes.{number_at}
 use Rattle.nr_base.specs.Names.{unit_at}
 use Rattle.nr_base.specs.LegalNames.{is_reserved}

@@ -6,6 +6,7 @@ ghost use Rattle.nr_base.specs.ModifiedUtf8.{IsModifiedUtf8};
 ghost use Rattle.nr_base.specs.Names.{is_free, is_name, name_of};
 
 mod fault;
+mod legal;
 mod unit;
 
 use crate::cur::Cur;

@@ -1,8 +1,11 @@
 //! Why bytes are no descriptor.
 
 ghost use Rattle.std.specs.Prelude.{◌≡◌};
+ghost use Rattle.nr_base.specs.DescReading.{of_short, of_name};
 ghost use Rattle.nr_base.specs.declared.desc.fault.DescFault.TheVariants as faults;
 
+use crate::cur::Short;
+use crate::name::NameFault;
 use std::alloc::AllocError;
 
 /// Why bytes are no descriptor.
@@ -23,5 +26,24 @@ impl From<AllocError> for DescFault {
 
     fn from(_e: AllocError) -> DescFault {
         DescFault::NoMemory
+    }
+}
+
+impl From<Short> for DescFault {
+    ghost from_gives = { λ s e. e ≡ of_short s };
+
+    fn from(s: Short) -> DescFault {
+        DescFault::BadDesc(s.at)
+    }
+}
+
+impl From<NameFault> for DescFault {
+    ghost from_gives = { λ n e. e ≡ of_name n };
+
+    fn from(n: NameFault) -> DescFault {
+        match n {
+            NameFault::BadUtf(at) | NameFault::ZeroChar(at) => DescFault::BadDesc(at),
+            NameFault::NoMemory => DescFault::NoMemory,
+        }
     }
 }
