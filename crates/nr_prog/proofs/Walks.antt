@@ -29,7 +29,7 @@ pub ends : {X : Type 0} (fault : ℕ → X → Option FormFault) (m i : ℕ) (xs
 unfolding first_fault
 ends fault m i xs total le so_far = sym so_far ∙ rw (drop_all i xs le) refl
 
-either : {A B : Type 0} (b : Bool) → (A → B) → MatchBool b (Unit {0}) A → MatchBool b (Unit {0}) B
+pub either : {A B : Type 0} (b : Bool) → (A → B) → MatchBool b (Unit {0}) A → MatchBool b (Unit {0}) B
 either true h f = tt
 either false h f = h f
 

@@ -3,4 +3,5 @@ pub mod Faults
 pub mod Legal
 pub mod Members
 pub mod Rules
+pub mod Form
 pub mod Seen

@@ -18,13 +18,13 @@ use std::alloc::Global;
 use std::collections::BTreeSet;
 
 #[tactic(auto, unfolding(crate::specs::Rules::name_fault, crate::specs::Members::spells))]
-fn name(pool: &[PoolEntry], index: u16) -> Result<&[u8], FormFault>
+fn name(alloc: Global, pool: &[PoolEntry], index: u16) -> Result<&[u8], FormFault>
     requires { All (λ e. text_len e < 2 ^ 16) pool.now }
     ensures fault { Finds result (name_fault is_field_text pool.now index) }
     ensures text { IfOk result (λ name. text_at pool.now index ≡ Some name.now) }
 {
     match text(pool, index) {
-        Some(name) if is_field_name(name) => Ok(name),
+        Some(name) if is_field_name(alloc, name)? => Ok(name),
         _ => Err(FormFault::BadName(index)),
     }
 }
@@ -57,7 +57,7 @@ fn check_field<'a>(
     ensures fault { Finds result (field_fault pool.now (has seen.old) field.now) }
     ensures seen { OnOk result ((n d : List ℕ) → has seen.new n d ≡ (has seen.old n d || is_spelled pool.now n d field.now.name field.now.desc)) }
 {
-    let name = name(pool, field.name)?;
+    let name = name(alloc, pool, field.name)?;
     let desc = descriptor(alloc, pool, field.desc)?;
     if !add(seen, name, desc)? {
         return Err(FormFault::Doubled(field.name));

@@ -31,13 +31,13 @@ impl Method {
 }
 
 #[tactic(auto, unfolding(crate::specs::Rules::name_fault, crate::specs::Members::spells))]
-fn name(pool: &[PoolEntry], index: u16) -> Result<&[u8], FormFault>
+fn name(alloc: Global, pool: &[PoolEntry], index: u16) -> Result<&[u8], FormFault>
     requires { All (λ e. text_len e < 2 ^ 16) pool.now }
     ensures fault { Finds result (name_fault is_method_text pool.now index) }
     ensures text { IfOk result (λ name. text_at pool.now index ≡ Some name.now) }
 {
     match text(pool, index) {
-        Some(name) if is_method_name(name) => Ok(name),
+        Some(name) if is_method_name(alloc, name)? => Ok(name),
         _ => Err(FormFault::BadName(index)),
     }
 }
@@ -107,7 +107,7 @@ fn check_method<'a>(
     ensures fault { Finds result (method_fault pool.now (has seen.old) place method.now) }
     ensures seen { OnOk result ((n d : List ℕ) → has seen.new n d ≡ (has seen.old n d || is_spelled pool.now n d method.now.name method.now.desc)) }
 {
-    let name = name(pool, method.name)?;
+    let name = name(alloc, pool, method.name)?;
     let (desc, void) = descriptor(alloc, pool, method.desc)?;
     if !add(seen, name, desc)? {
         return Err(FormFault::Doubled(method.name));
