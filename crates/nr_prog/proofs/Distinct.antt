@@ -96,11 +96,12 @@ module _ {X : Type 0} (name_of desc_of : X → ℕ) (pool : List PoolEntry) (mem
       let t = texts j d in' in
       let test : X → Bool = λ n. is_spelled pool t.name.0 t.desc.0 (name_of n) (desc_of n) in
       in_new j m t (list_any_none test (take j members) (λ i e short.
-          let lt : i < j = omega (arith, length-take j members) in
-          let same : get_or (take j members) i e ≡ get_or members i e = get_or-take j members i e lt in
-          no_true (test (get_or (take j members) i e)) (λ hit.
-              let both = so_both _ _ (sym (ap test same) ∙ hit) in
-              let later : get_or members j d ≡ get_or members j e = get_or_default members j d e in' in
-              apart i j e lt in'
-              ( spelled_so pool t.name.0 _ both.0 ∙ sym t.name.1 ∙ ap (λ (k : X). text_at pool (name_of k)) later
-              , spelled_so pool t.desc.0 _ both.1 ∙ sym t.desc.1 ∙ ap (λ (k : X). text_at pool (desc_of k)) later ))))
+      let lt : i < j = omega (arith, length-take j members) in
+      let same : get_or (take j members) i e ≡ get_or members i e = get_or-take j members i e lt in
+      no_true (test (get_or (take j members) i e)) (λ hit.
+      let both = so_both _ _ (sym (ap test same) ∙ hit) in
+      let later : get_or members j d ≡ get_or members j e = get_or_default members j d e in' in
+      apart i j e lt in' (
+        spelled_so pool t.name.0 _ both.0 ∙ sym t.name.1 ∙ ap (λ (k : X). text_at pool (name_of k)) later,
+        spelled_so pool t.desc.0 _ both.1 ∙ sym t.desc.1 ∙ ap (λ (k : X). text_at pool (desc_of k)) later,
+      ))))

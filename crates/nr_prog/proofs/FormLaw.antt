@@ -138,8 +138,8 @@ are_fields : (pool : List PoolEntry) (fields : List Field) → fields_fault pool
 unfolding fields_fault
 are_fields pool fields none =
     let checked = λ (i : ℕ) (d : Field) (lt : i < length fields).
-        field_checked pool (is_in (λ (g : Field). g.name) (λ (g : Field). g.desc) pool (take i fields)) (get_or fields i d)
-        (each_none (fault_of_field pool fields) 0 fields none i i d (omega arith) lt) in
+    field_checked pool (is_in (λ (g : Field). g.name) (λ (g : Field). g.desc) pool (take i fields)) (get_or fields i d)
+    (each_none (fault_of_field pool fields) 0 fields none i i d (omega arith) lt) in
     record {
       each_field = λ i d lt. (checked i d lt).0;
       apart_fields = apart_of_new (λ (g : Field). g.name) (λ (g : Field). g.desc) pool fields
@@ -150,7 +150,7 @@ of_are_fields : (pool : List PoolEntry) (fields : List Field) → AreFields pool
 unfolding fields_fault
 of_are_fields pool fields h = none_of_each (fault_of_field pool fields) 0 fields (λ m i d is lt.
     let new = new_of_apart (λ (g : Field). g.name) (λ (g : Field). g.desc) pool fields
-        (λ j e short. field_texts pool (get_or fields j e) (h.each_field j e short)) h.apart_fields i d lt in
+    (λ j e short. field_texts pool (get_or fields j e) (h.each_field j e short)) h.apart_fields i d lt in
     let place : i ≡ m = omega arith in
     subst (λ (k : ℕ). fault_of_field pool fields k (get_or fields i d) ≡ None) place
     (of_field_checked pool (is_in (λ (g : Field). g.name) (λ (g : Field). g.desc) pool (take i fields)) (get_or fields i d) (h.each_field i d lt) new))
@@ -169,8 +169,8 @@ are_methods : (pool : List PoolEntry) (methods : List Method) → methods_fault 
 unfolding methods_fault
 are_methods pool methods none =
     let checked = λ (i : ℕ) (d : Method) (lt : i < length methods).
-        method_checked pool (is_in (λ (n : Method). n.name) (λ (n : Method). n.desc) pool (take i methods)) i (get_or methods i d)
-        (each_none (fault_of_method pool methods) 0 methods none i i d (omega arith) lt) in
+    method_checked pool (is_in (λ (n : Method). n.name) (λ (n : Method). n.desc) pool (take i methods)) i (get_or methods i d)
+    (each_none (fault_of_method pool methods) 0 methods none i i d (omega arith) lt) in
     record {
       each_method = λ i d lt. (checked i d lt).0;
       apart_methods = apart_of_new (λ (n : Method). n.name) (λ (n : Method). n.desc) pool methods
@@ -181,7 +181,7 @@ of_are_methods : (pool : List PoolEntry) (methods : List Method) → AreMethods 
 unfolding methods_fault
 of_are_methods pool methods h = none_of_each (fault_of_method pool methods) 0 methods (λ m i d is lt.
     let new = new_of_apart (λ (n : Method). n.name) (λ (n : Method). n.desc) pool methods
-        (λ j e short. method_texts pool (get_or methods j e) (h.each_method j e short)) h.apart_methods i d lt in
+    (λ j e short. method_texts pool (get_or methods j e) (h.each_method j e short)) h.apart_methods i d lt in
     let place : i ≡ m = omega arith in
     subst (λ (k : ℕ). fault_of_method pool methods k (get_or methods i d) ≡ None) place
     (of_method_checked pool (is_in (λ (n : Method). n.name) (λ (n : Method). n.desc) pool (take i methods)) i (get_or methods i d) (h.each_method i d lt) new))

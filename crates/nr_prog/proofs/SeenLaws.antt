@@ -64,7 +64,7 @@ turned false false = refl
 inserted : (n d : List ℕ) (k x : Pair) (xs : List Pair) (o : Ordering) → order k x ≡ o
     → list_any (λ q. is_pair n d q.0.now q.1.now) (insert_key order xs k) ≡ (is_pair n d k.0.now k.1.now || list_any (λ q. is_pair n d q.0.now q.1.now) xs)
     → list_any (λ q. is_pair n d q.0.now q.1.now) (match_ordering o (k ∷ x ∷ xs) (x ∷ xs) (x ∷ insert_key order xs k))
-      ≡ (is_pair n d k.0.now k.1.now || (is_pair n d x.0.now x.1.now || list_any (λ q. is_pair n d q.0.now q.1.now) xs))
+    ≡ (is_pair n d k.0.now k.1.now || (is_pair n d x.0.now x.1.now || list_any (λ q. is_pair n d q.0.now q.1.now) xs))
 inserted n d k x xs Less e h = refl
 inserted n d k x xs Equal e h =
     let rest = list_any (λ (q : Pair). is_pair n d q.0.now q.1.now) xs in

@@ -13,3 +13,6 @@ pub use fault::FormFault;
 pub use member::{Code, Field, Handler, Method};
 pub use parts::ClassParts;
 pub use pool::PoolEntry;
+
+#[cfg(test)]
+mod tests;

@@ -3,7 +3,6 @@
 mod entries;
 
 pub use entries::{entry, text};
-
 use nr_base::Items;
 
 /// An entry of the constant pool (JVM Specification 4.4). Its numbers are indices of the pool, from 1.

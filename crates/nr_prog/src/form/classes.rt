@@ -51,11 +51,7 @@ fn check_super(alloc: Global, pool: &[PoolEntry], index: u16) -> Result<(), Form
 }
 
 #[tactic(auto, using(crate::proofs::Walks::goes_on, crate::proofs::Walks::fails_in, crate::proofs::Walks::ends))]
-fn check_interfaces(
-    alloc: Global,
-    pool: &[PoolEntry],
-    interfaces: &[u16],
-) -> Result<(), FormFault>
+fn check_interfaces(alloc: Global, pool: &[PoolEntry], interfaces: &[u16]) -> Result<(), FormFault>
     requires { All (λ e. text_len e < 2 ^ 16) pool.now }
     ensures { Finds result (first_fault (λ place. class_fault pool.now) 0 interfaces.now) }
 {

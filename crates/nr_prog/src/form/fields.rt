@@ -45,7 +45,6 @@ fn descriptor(alloc: Global, pool: &[PoolEntry], index: u16) -> Result<&[u8], Fo
     }
 }
 
-
 #[tactic(auto, using(crate::proofs::Walks::fails_first, crate::proofs::Members::among_at, crate::proofs::Members::spelled_at), unfolding(crate::specs::Rules::field_fault, crate::specs::Rules::doubled_fault))]
 fn check_field<'a>(
     alloc: Global,
@@ -66,11 +65,7 @@ fn check_field<'a>(
 }
 
 /// Looks at each field, in order (JVM Specification 4.5).
-pub fn check_fields(
-    alloc: Global,
-    pool: &[PoolEntry],
-    fields: &[Field],
-) -> Result<(), FormFault>
+pub fn check_fields(alloc: Global, pool: &[PoolEntry], fields: &[Field]) -> Result<(), FormFault>
     requires { All (λ e. text_len e < 2 ^ 16) pool.now }
     ensures { Finds result (fields_fault pool.now fields.now) }
 {

@@ -18,8 +18,11 @@ use std::collections::BTreeSet;
 
 // Access flags of methods (JVM Specification, table 4.6-A).
 const STATIC: u16 = 0x0008;
+
 const SYNCHRONIZED: u16 = 0x0020;
+
 const NATIVE: u16 = 0x0100;
+
 const ABSTRACT: u16 = 0x0400;
 
 impl Method {
@@ -44,11 +47,7 @@ fn name(alloc: Global, pool: &[PoolEntry], index: u16) -> Result<&[u8], FormFaul
 
 /// The descriptor at an index, and whether a method of it returns nothing.
 #[tactic(auto, unfolding(crate::specs::Rules::desc_fault, crate::specs::Members::spells))]
-fn descriptor(
-    alloc: Global,
-    pool: &[PoolEntry],
-    index: u16,
-) -> Result<(&[u8], bool), FormFault>
+fn descriptor(alloc: Global, pool: &[PoolEntry], index: u16) -> Result<(&[u8], bool), FormFault>
     requires { All (λ e. text_len e < 2 ^ 16) pool.now }
     ensures fault { Finds result (desc_fault is_method_desc pool.now index) }
     ensures text { IfOk result (λ found. text_at pool.now index ≡ Some found.0.now) }
@@ -122,11 +121,7 @@ fn check_method<'a>(
 }
 
 /// Looks at each method, in order (JVM Specification 4.6).
-pub fn check_methods(
-    alloc: Global,
-    pool: &[PoolEntry],
-    methods: &[Method],
-) -> Result<(), FormFault>
+pub fn check_methods(alloc: Global, pool: &[PoolEntry], methods: &[Method]) -> Result<(), FormFault>
     requires texts { All (λ e. text_len e < 2 ^ 16) pool.now }
     requires places { length methods.now ≤ 2 ^ 16 }
     ensures { Finds result (methods_fault pool.now methods.now) }
