@@ -4,10 +4,10 @@ use Rattle.std.specs.declared.alloc.Global.{Global}
 use Rattle.std.proofs.lemmas.Bool.{cases_lt, lt-leb}
 use Rattle.std.proofs.lemmas.List.{take_all, length-take}
 use Rattle.nr_outside.specs.Folder.{Reads}
-use Rattle.nr_cli.specs.Thin.{thin_class}
-use Rattle.nr_cli.specs.Plan.{as_end, file_class, class_at_path, second_end, second_at_path}
-use Rattle.nr_cli.specs.declared.thin.class.ThinClass.{ThinClass}
-use Rattle.nr_cli.specs.declared.ending.LoadFault.TheVariants.{OutOfThinForm, FileTooLong}
+use Rattle.nr_classread.specs.ClassReading.{class_of}
+use Rattle.nr_cli.specs.Plan.{as_end, as_second, file_class, class_at_path, second_end, second_at_path}
+use Rattle.nr_prog.specs.declared.parts.ClassParts.{ClassParts}
+use Rattle.nr_cli.specs.declared.ending.LoadFault.TheVariants.{FileTooLong}
 use Rattle.nr_cli.specs.declared.ending.End.{End}
 use Rattle.nr_cli.specs.declared.ending.End.TheVariants.{Class, Memory, Folder}
 
@@ -24,13 +24,13 @@ by_length f y bytes whole e =
 
 class_read : (path : List ℕ) (file : Option (List ℕ)) (bytes : Vec ℕ Global) → Reads file 1048577 (Ok bytes) → file_class path bytes.items ≡ class_at_path path file
 class_read path None bytes h = absurd h
-class_read path (Some whole) bytes h = by_length (λ z. as_end path (thin_class z)) (Err (Class path FileTooLong)) bytes.items whole h
+class_read path (Some whole) bytes h = by_length (λ z. as_end path (class_of z)) (Err (Class path FileTooLong)) bytes.items whole h
 
 second_read : (path : List ℕ) (file : Option (List ℕ)) (bytes : Vec ℕ Global) → Reads file 1048577 (Ok bytes) → second_end path bytes.items ≡ second_at_path path file
 second_read path None bytes h = absurd h
-second_read path (Some whole) bytes h = by_length (λ z. Class path (OutOfThinForm 0)) (Class path FileTooLong) bytes.items whole h
+second_read path (Some whole) bytes h = by_length (λ z. as_second path (class_of z)) (Class path FileTooLong) bytes.items whole h
 
-pub loaded : (path : List ℕ) (file : Option (List ℕ)) (bytes : Vec ℕ Global) (slice : List ℕ) (r : Result ThinClass End) → Reads file 1048577 (Ok bytes) → slice ≡ bytes.items → (r ≡ Err Memory) ⊎ (r ≡ file_class path slice) → (r ≡ Err Memory) ⊎ (r ≡ Err Folder) ⊎ (r ≡ class_at_path path file)
+pub loaded : (path : List ℕ) (file : Option (List ℕ)) (bytes : Vec ℕ Global) (slice : List ℕ) (r : Result ClassParts End) → Reads file 1048577 (Ok bytes) → slice ≡ bytes.items → (r ≡ Err Memory) ⊎ (r ≡ file_class path slice) → (r ≡ Err Memory) ⊎ (r ≡ Err Folder) ⊎ (r ≡ class_at_path path file)
 loaded path file bytes slice r h same (inl e) = inl e
 loaded path file bytes slice r h same (inr e) = inr (inr (e ∙ ap (λ z. file_class path z) same ∙ class_read path file bytes h))
 

@@ -1,8 +1,7 @@
 pub mod Numbers
 pub mod Orders
-pub mod Exits
-pub mod Fitting
+pub mod Counts
 pub mod Files
 pub mod Listed
-pub mod Counts
 pub mod Parts
+pub mod Runnable

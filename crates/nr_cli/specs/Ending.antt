@@ -3,7 +3,7 @@ use Rattle.std.specs.Prelude.{ℕ, List, [], ◌∷◌, ◌++◌, codes}
 use Rattle.std.specs.Fmt.{decimal, signed_decimal}
 use Rattle.nr_cli.specs.Spelling.{spelled, spelled_fault}
 use Rattle.nr_cli.specs.declared.ending.End.{End}
-use Rattle.nr_cli.specs.declared.ending.End.TheVariants.{Returned, Words, Folder, Class, NoClass, Budget, Memory}
+use Rattle.nr_cli.specs.declared.ending.End.TheVariants.{Returned, Words, Folder, Class, NoClass, ReservedName, Budget, Memory}
 
 abbrev pub status_of : End → ℕ
 status_of (Returned n) = 0
@@ -11,6 +11,7 @@ status_of Words = 2
 status_of Folder = 3
 status_of (Class path fault) = 4
 status_of (NoClass name) = 5
+status_of (ReservedName name) = 5
 status_of (Budget n) = 9
 status_of Memory = 12
 
@@ -27,5 +28,6 @@ err_of Words = line (codes "words")
 err_of Folder = line (codes "folder")
 err_of (Class path fault) = line (codes "class " ++ spelled path ++ codes " " ++ spelled_fault fault)
 err_of (NoClass name) = line (codes "link NoClass " ++ spelled name)
+err_of (ReservedName name) = line (codes "link ReservedName " ++ spelled name)
 err_of (Budget n) = line (codes "budget " ++ decimal n)
 err_of Memory = line (codes "memory")

@@ -1,8 +1,12 @@
 -- How names and faults are spelled. The project's own rules.
 use Rattle.std.specs.Prelude.{ℕ, ◌+◌, ◌/◌, ◌%◌, ◌&&◌, List, [], ◌∷◌, ◌++◌, flat_map, codes, cond, nat_le, nat_lt}
 use Rattle.std.specs.Fmt.{decimal}
+use Rattle.nr_prog.specs.declared.fault.FormFault.{FormFault}
+use Rattle.nr_prog.specs.declared.fault.FormFault.TheVariants as form
+use Rattle.nr_classread.specs.declared.fault.ClassFault.{ClassFault}
+use Rattle.nr_classread.specs.declared.fault.ClassFault.TheVariants as faults
 use Rattle.nr_cli.specs.declared.ending.LoadFault.{LoadFault}
-use Rattle.nr_cli.specs.declared.ending.LoadFault.TheVariants.{OutOfThinForm, FileTooLong}
+use Rattle.nr_cli.specs.declared.ending.LoadFault.TheVariants.{Read, OutOfThinForm, FileTooLong}
 
 -- a capital hexadecimal digit
 abbrev pub hex_digit : ℕ → ℕ
@@ -15,7 +19,28 @@ spelled_byte b = cond (nat_le 33 b && nat_le b 126) (b ∷ []) (92 ∷ 120 ∷ h
 abbrev pub spelled : List ℕ → List ℕ
 spelled name = flat_map spelled_byte name
 
--- a fault is its name and its number
+-- A fault is its name and its numbers, in decimal.
+abbrev pub spelled_form : FormFault → List ℕ
+spelled_form (form.PoolKind index) = codes "PoolKind " ++ decimal index
+spelled_form (form.BadName index) = codes "BadName " ++ decimal index
+spelled_form (form.BadDesc index) = codes "BadDesc " ++ decimal index
+spelled_form (form.Doubled index) = codes "Doubled " ++ decimal index
+spelled_form (form.CodePresence method) = codes "CodePresence " ++ decimal method
+spelled_form (form.OutOfProfile method) = codes "OutOfProfile " ++ decimal method
+spelled_form form.NoMemory = codes "NoMemory"
+
+abbrev pub spelled_class : ClassFault → List ℕ
+spelled_class (faults.Short at) = codes "Short " ++ decimal at
+spelled_class faults.BadMagic = codes "BadMagic"
+spelled_class (faults.Version minor major) = codes "Version " ++ decimal minor ++ codes " " ++ decimal major
+spelled_class (faults.PoolTag at tag) = codes "PoolTag " ++ decimal at ++ codes " " ++ decimal tag
+spelled_class (faults.AttrLength at) = codes "AttrLength " ++ decimal at
+spelled_class (faults.DoubledAttr at) = codes "DoubledAttr " ++ decimal at
+spelled_class (faults.Trailing at) = codes "Trailing " ++ decimal at
+spelled_class (faults.Form fault) = spelled_form fault
+spelled_class faults.NoMemory = codes "NoMemory"
+
 abbrev pub spelled_fault : LoadFault → List ℕ
+spelled_fault (Read fault) = spelled_class fault
 spelled_fault (OutOfThinForm at) = codes "OutOfThinForm " ++ decimal at
 spelled_fault FileTooLong = codes "FileTooLong"

@@ -1,10 +1,14 @@
 //! How the program ends.
 use nr_base::Items;
+use nr_classread::ClassFault;
 
 /// Why a class file is refused.
 #[derive(Clone, Copy, Debug, PartialEq, Eq)]
 pub enum LoadFault {
-    /// The item at this offset is the first that isn't of the form that runs so far.
+    /// The file isn't a class file.
+    Read(ClassFault),
+    /// The class isn't of the form that runs so far. The number is that of the first method that isn't, or the
+    /// number of methods.
     OutOfThinForm(u32),
     /// The file has more than 1,048,576 bytes.
     FileTooLong,
@@ -23,6 +27,8 @@ pub enum End {
     Class(Items<u8>, LoadFault),
     /// There is no class of this name.
     NoClass(Items<u8>),
+    /// The class file holds a class of this name, which belongs to the built-in classes.
+    ReservedName(Items<u8>),
     /// The run made so many steps without an end.
     Budget(u32),
     /// Memory ran out.

@@ -4,15 +4,15 @@ ghost use Rattle.std.specs.String.{string_bytes};
 ghost use Rattle.nr_outside.specs.Causes.{HasCause, Rose};
 ghost use Rattle.nr_outside.specs.Folder.{class_paths, file_at};
 ghost use Rattle.nr_cli.specs.Order.{in_byte_order};
-ghost use Rattle.nr_cli.specs.Thin.{fits};
-ghost use Rattle.nr_cli.specs.Plan.{file_class, class_at_path, second_end, second_at_path};
+ghost use Rattle.nr_cli.specs.Thin.{first_other, is_thin};
+ghost use Rattle.nr_cli.specs.Plan.{fault_end, file_class, class_at_path, second_end, second_at_path};
 
 use crate::ending::{End, LoadFault};
-use crate::thin::class::ThinClass;
-use crate::thin::fault::ThinFault;
-use crate::thin::read::read_thin;
+use crate::thin::{count_leading, is_of_form};
 use nr_base::Items;
+use nr_classread::{ClassFault, read_class};
 use nr_outside::{Fault, Folder};
+use nr_prog::Class;
 use std::alloc::Global;
 
 // The most bytes of a class file.
@@ -43,23 +43,44 @@ fn refused(alloc: Global, path: &str, fault: LoadFault) -> End
     }
 }
 
+// The end of the program where a file can't be read as a class.
+fn refused_read(alloc: Global, path: &str, fault: ClassFault) -> End
+    ensures end { (result ≡ End.Memory) ⊎ (result ≡ fault_end path.now fault) }
+    ensures words { result ≡ End.Words → ⊥ }
+{
+    match fault {
+        ClassFault::NoMemory => End::Memory,
+        fault => refused(alloc, path, LoadFault::Read(fault)),
+    }
+}
+
+// The end of the program where a class isn't of the form.
+fn refused_form(alloc: Global, path: &str, class: &Class) -> End
+    ensures end { (result ≡ End.Memory) ⊎ (result ≡ End.Class path.now (LoadFault.OutOfThinForm (first_other class.now))) }
+    ensures words { result ≡ End.Words → ⊥ }
+{
+    let leading = count_leading(class.parts());
+    refused(alloc, path, LoadFault::OutOfThinForm(leading as u32))
+}
+
 // The class in the bytes of a file.
-fn class_of_bytes(alloc: Global, path: &str, bytes: &[u8]) -> Result<ThinClass, End>
+fn class_of_bytes(alloc: Global, path: &str, bytes: &[u8]) -> Result<Class, End>
     requires { length bytes.now ≤ 1048577 }
     ensures class { (result ≡ Err End.Memory) ⊎ (result ≡ file_class path.now bytes.now) }
-    ensures fits { IfOk result (λ c. fits c.max_stack 0 c.code ≡ true) }
+    ensures thin { IfOk result (λ c. is_thin c ≡ true) }
     ensures words { result ≡ Err End.Words → ⊥ }
 {
     if bytes.len() > MAX_FILE {
         return Err(refused(alloc, path, LoadFault::FileTooLong));
     }
-    match read_thin(alloc, bytes) {
-        Ok(class) => Ok(class),
-        Err(ThinFault::OutOfThinForm(at)) => {
-            Err(refused(alloc, path, LoadFault::OutOfThinForm(at)))
-        }
-        Err(ThinFault::NoMemory) => Err(End::Memory),
+    let class = match read_class(alloc, bytes) {
+        Ok(class) => class,
+        Err(fault) => return Err(refused_read(alloc, path, fault)),
+    };
+    if !is_of_form(class.parts()) {
+        return Err(refused_form(alloc, path, &class));
     }
+    Ok(class)
 }
 
 /// The class in the file at a path, or the end of the program.
@@ -68,11 +89,11 @@ pub fn load_class<F: Folder>(
     folder: &mut F,
     dir: &str,
     path: &str,
-) -> Result<ThinClass, End>
+) -> Result<Class, End>
     ensures files { F.Tells → F.files folder.new ≡ F.files folder.old }
     ensures class { F.Tells → (result ≡ Err End.Memory) ⊎ (result ≡ Err End.Folder)
         ⊎ (result ≡ class_at_path path.now (file_at dir.now path.now (F.files folder.old))) }
-    ensures fits { IfOk result (λ c. fits c.max_stack 0 c.code ≡ true) }
+    ensures thin { IfOk result (λ c. is_thin c ≡ true) }
     ensures words { result ≡ Err End.Words → ⊥ }
     ensures faults { F.faults folder.old ≤ F.faults folder.new }
     ensures cause { result ≡ Err End.Folder → Rose (F.faults folder.old) (F.faults folder.new)
@@ -87,13 +108,17 @@ pub fn load_class<F: Folder>(
 
 // The end of the program where the bytes of a file are those of a second file.
 fn second_of_bytes(alloc: Global, path: &str, bytes: &[u8]) -> End
+    requires { length bytes.now ≤ 1048577 }
     ensures end { (result ≡ End.Memory) ⊎ (result ≡ second_end path.now bytes.now) }
     ensures words { result ≡ End.Words → ⊥ }
 {
     if bytes.len() > MAX_FILE {
         return refused(alloc, path, LoadFault::FileTooLong);
     }
-    refused(alloc, path, LoadFault::OutOfThinForm(0))
+    match read_class(alloc, bytes) {
+        Ok(class) => refused_form(alloc, path, &class),
+        Err(fault) => refused_read(alloc, path, fault),
+    }
 }
 
 /// The end of the program where the file at a path is a second one.

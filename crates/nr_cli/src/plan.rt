@@ -1,18 +1,19 @@
 //! Does what the words say, as far as the folder goes.
-ghost use Rattle.std.specs.Prelude.{◌≡◌, ◌⊎◌, ◌≤◌, true, Some, None, map};
+ghost use Rattle.std.specs.Prelude.{◌≡◌, ◌⊎◌, ◌≤◌, true, Some, None, option_copied, map};
 ghost use Rattle.std.specs.String.{string_bytes};
 ghost use Rattle.nr_outside.specs.Causes.{Rose};
-ghost use Rattle.nr_cli.specs.Thin.{fits};
+ghost use Rattle.nr_cli.specs.Thin.{has_thin_code, is_thin, is_reserved};
 ghost use Rattle.nr_cli.specs.Words.{told, command_of};
-ghost use Rattle.nr_cli.specs.Plan.{run_class, of_paths, of_command, end_of, are_listed};
+ghost use Rattle.nr_cli.specs.Plan.{run_code, run_class, of_paths, of_command, end_of, are_listed};
 
 use crate::ending::End;
 use crate::load::{load_class, refuse_second, sorted_names};
 use crate::machine::{Outcome, run};
-use crate::thin::class::ThinClass;
+use crate::thin::{code_of, own_name};
 use crate::words::{RunCommand, read_words};
 use nr_base::Items;
 use nr_outside::{Fault, Folder};
+use nr_prog::{Class, Code};
 use std::alloc::Global;
 
 // The end where no class has the name of the command.
@@ -25,25 +26,55 @@ fn no_class(alloc: Global, command: &RunCommand<'_>) -> End
     }
 }
 
-// Runs a class, where it has the name of the command.
-fn end_of_class(alloc: Global, command: &RunCommand<'_>, class: &ThinClass) -> End
-    requires { fits class.now.max_stack 0 class.now.code ≡ true }
-    ensures words { result ≡ End.Words → ⊥ }
-    ensures end { (result ≡ End.Memory) ⊎ (result ≡ run_class (told command.now) class.now) }
+// The end where the class file holds a class of a reserved name.
+fn reserved_name(alloc: Global, name: &[u8]) -> End
+    ensures { (result ≡ End.Memory) ⊎ (result ≡ End.ReservedName name.now) }
 {
-    if class.name.as_slice() != command.main.as_slice() {
-        return no_class(alloc, command);
-    }
-    match run(
-        alloc,
-        class.max_stack,
-        class.code.as_slice(),
-        command.budget,
-    ) {
-        Ok(Outcome::Returned(value)) => End::Returned(value),
-        Ok(Outcome::BudgetSpent) => End::Budget(command.budget),
+    match Items::of(alloc, name) {
+        Ok(name) => End::ReservedName(name),
         Err(_) => End::Memory,
     }
+}
+
+fn has_reserved_front(name: &[u8]) -> bool
+    ensures { result ≡ is_reserved name.now }
+{
+    name.starts_with(b"java/".as_slice()) || name.starts_with(b"nrmi/".as_slice())
+}
+
+// Runs the code of `main`.
+fn end_of_code(alloc: Global, budget: u32, code: Option<&Code>) -> End
+    requires { has_thin_code (option_copied code) ≡ true }
+    ensures end { (result ≡ End.Memory) ⊎ (result ≡ run_code budget (option_copied code.entry)) }
+    ensures words { result ≡ End.Words → ⊥ }
+{
+    let Some(code) = code else {
+        return End::Memory;
+    };
+    match run(alloc, code.max_stack, code.bytes.as_slice(), budget) {
+        Ok(Outcome::Returned(value)) => End::Returned(value),
+        Ok(Outcome::BudgetSpent) => End::Budget(budget),
+        Err(_) => End::Memory,
+    }
+}
+
+// Runs a class, where it has the name of the command.
+fn end_of_class(alloc: Global, command: &RunCommand<'_>, class: &Class) -> End
+    requires { is_thin class.now ≡ true }
+    ensures end { (result ≡ End.Memory) ⊎ (result ≡ run_class (told command.now) class.now) }
+    ensures words { result ≡ End.Words → ⊥ }
+{
+    let parts = class.parts();
+    let Some(name) = own_name(parts) else {
+        return no_class(alloc, command);
+    };
+    if has_reserved_front(name) {
+        return reserved_name(alloc, name);
+    }
+    if name != command.main.as_slice() {
+        return no_class(alloc, command);
+    }
+    end_of_code(alloc, command.budget, code_of(parts))
 }
 
 // The end over the class files at these paths.

@@ -1,11 +1,13 @@
 //! What the program writes at its end.
 ghost use Rattle.std.specs.Prelude.{◌≡◌, [], ◌∷◌, ◌++◌, ◌<◌, codes, IfOk, OnOk};
 ghost use Rattle.std.specs.Fmt.{decimal, signed_decimal};
-ghost use Rattle.nr_cli.specs.Spelling.{hex_digit, spelled_byte, spelled, spelled_fault};
+ghost use Rattle.nr_cli.specs.Spelling.{hex_digit, spelled_byte, spelled, spelled_form, spelled_class, spelled_fault};
 ghost use Rattle.nr_cli.specs.Ending.{line, status_of, out_of, err_of};
 
 use crate::ending::{End, LoadFault};
 use nr_base::Put;
+use nr_classread::ClassFault;
+use nr_prog::FormFault;
 use std::alloc::{AllocError, Global};
 
 /// The status and the texts of an end.
@@ -47,13 +49,68 @@ fn put_name(text: &mut Put, name: &[u8]) -> Result<(), AllocError>
     Ok(())
 }
 
+// A fault of one number.
+fn put_numbered(alloc: Global, text: &mut Put, name: &str, number: u32) -> Result<(), AllocError>
+    ensures { OnOk result (text.new ≡ text.old ++ (name.now ++ decimal number)) }
+{
+    text.bytes(format!(in alloc; "{name}{number}")?.as_bytes())
+}
+
+// A fault of two numbers.
+fn put_pair(
+    alloc: Global,
+    text: &mut Put,
+    name: &str,
+    first: u32,
+    second: u32,
+) -> Result<(), AllocError>
+    ensures { OnOk result (text.new ≡ text.old ++ (name.now ++ decimal first ++ codes " " ++ decimal second)) }
+{
+    text.bytes(format!(in alloc; "{name}{first} {second}")?.as_bytes())
+}
+
+fn put_form(alloc: Global, text: &mut Put, fault: FormFault) -> Result<(), AllocError>
+    ensures { OnOk result (text.new ≡ text.old ++ spelled_form fault) }
+{
+    match fault {
+        FormFault::PoolKind(index) => put_numbered(alloc, text, "PoolKind ", u32::from(index)),
+        FormFault::BadName(index) => put_numbered(alloc, text, "BadName ", u32::from(index)),
+        FormFault::BadDesc(index) => put_numbered(alloc, text, "BadDesc ", u32::from(index)),
+        FormFault::Doubled(index) => put_numbered(alloc, text, "Doubled ", u32::from(index)),
+        FormFault::CodePresence(method) => {
+            put_numbered(alloc, text, "CodePresence ", u32::from(method))
+        }
+        FormFault::OutOfProfile(method) => {
+            put_numbered(alloc, text, "OutOfProfile ", u32::from(method))
+        }
+        FormFault::NoMemory => text.bytes(b"NoMemory"),
+    }
+}
+
+fn put_class(alloc: Global, text: &mut Put, fault: ClassFault) -> Result<(), AllocError>
+    ensures { OnOk result (text.new ≡ text.old ++ spelled_class fault) }
+{
+    match fault {
+        ClassFault::Short(at) => put_numbered(alloc, text, "Short ", at),
+        ClassFault::BadMagic => text.bytes(b"BadMagic"),
+        ClassFault::Version(minor, major) => {
+            put_pair(alloc, text, "Version ", u32::from(minor), u32::from(major))
+        }
+        ClassFault::PoolTag(at, tag) => put_pair(alloc, text, "PoolTag ", at, u32::from(tag)),
+        ClassFault::AttrLength(at) => put_numbered(alloc, text, "AttrLength ", at),
+        ClassFault::DoubledAttr(at) => put_numbered(alloc, text, "DoubledAttr ", at),
+        ClassFault::Trailing(at) => put_numbered(alloc, text, "Trailing ", at),
+        ClassFault::Form(fault) => put_form(alloc, text, fault),
+        ClassFault::NoMemory => text.bytes(b"NoMemory"),
+    }
+}
+
 fn put_fault(alloc: Global, text: &mut Put, fault: LoadFault) -> Result<(), AllocError>
     ensures { OnOk result (text.new ≡ text.old ++ spelled_fault fault) }
 {
     match fault {
-        LoadFault::OutOfThinForm(at) => text.bytes(format!(in alloc;
-            "OutOfThinForm {at}"
-        )?.as_bytes()),
+        LoadFault::Read(fault) => put_class(alloc, text, fault),
+        LoadFault::OutOfThinForm(at) => put_numbered(alloc, text, "OutOfThinForm ", at),
         LoadFault::FileTooLong => text.bytes(b"FileTooLong"),
     }
 }
@@ -80,11 +137,12 @@ fn class_line(alloc: Global, path: &[u8], fault: LoadFault) -> Result<Vec<u8>, A
     word_line(alloc, &text.done())
 }
 
-fn no_class_line(alloc: Global, name: &[u8]) -> Result<Vec<u8>, AllocError>
-    ensures { IfOk result (λ text. text.items ≡ line (codes "link NoClass " ++ spelled name.now)) }
+// A line of linking: a fault and a name.
+fn link_line(alloc: Global, fault: &[u8], name: &[u8]) -> Result<Vec<u8>, AllocError>
+    ensures { IfOk result (λ text. text.items ≡ line (fault.now ++ spelled name.now)) }
 {
     let mut text = Put::new(alloc);
-    text.bytes(b"link NoClass ")?;
+    text.bytes(fault)?;
     put_name(&mut text, name)?;
     word_line(alloc, &text.done())
 }
@@ -110,7 +168,8 @@ fn err_text(alloc: Global, end: &End) -> Result<Vec<u8>, AllocError>
         End::Words => word_line(alloc, b"words"),
         End::Folder => word_line(alloc, b"folder"),
         End::Class(path, fault) => class_line(alloc, path.as_slice(), *fault),
-        End::NoClass(name) => no_class_line(alloc, name.as_slice()),
+        End::NoClass(name) => link_line(alloc, b"link NoClass ", name.as_slice()),
+        End::ReservedName(name) => link_line(alloc, b"link ReservedName ", name.as_slice()),
         End::Budget(budget) => budget_line(alloc, *budget),
         End::Memory => word_line(alloc, b"memory"),
     }
@@ -133,7 +192,7 @@ fn status(end: &End) -> u8
         End::Words => 2,
         End::Folder => 3,
         End::Class(..) => 4,
-        End::NoClass(_) => 5,
+        End::NoClass(_) | End::ReservedName(_) => 5,
         End::Budget(_) => 9,
         End::Memory => 12,
     }

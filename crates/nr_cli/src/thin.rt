@@ -1,7 +1,7 @@
-//! Class files of the one form that runs so far: a pool of names and classes, and one method `main`,
-//! `([I)I`, of int constants, additions and a return.
-pub mod class;
-pub mod code;
-pub mod fault;
-pub mod pool;
-pub mod read;
+//! Classes of the one form that runs so far: one method `main`, `([I)I`, of int constants, additions and a return.
+mod code;
+mod form;
+mod names;
+
+pub use form::{code_of, count_leading, is_of_form};
+pub use names::own_name;

@@ -1,0 +1,5 @@
+package book;
+
+public class Book implements nrmi.Restorable {
+    Account root;
+}

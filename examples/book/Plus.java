@@ -1,0 +1,5 @@
+package book;
+
+public class Plus implements nrmi.Restorable {
+    long d;
+}

@@ -1,0 +1,10 @@
+#!/bin/bash
+# Compiles the examples to class files of version 50 in the folder that is named, without the stubs.
+# `ecj` of Debian's package takes the version; `javac` alone can't.
+set -e
+cd "$(dirname "$0")"
+out=${1:?the folder for the class files}
+stubs=$(mktemp -d)
+trap 'rm -rf "$stubs"' EXIT
+ecj -source 1.6 -target 1.6 -nowarn -proc:none -d "$stubs" stubs/nrmi/*.java
+ecj -source 1.6 -target 1.6 -nowarn -proc:none -g -cp "$stubs" -d "$out" demo/*.java book/*.java

@@ -1,0 +1,5 @@
+package demo;
+
+public class Dim implements nrmi.Restorable {
+    transient int x;
+}

@@ -1,0 +1,6 @@
+package demo;
+
+public class Sub extends Base {
+    static final long serialVersionUID = 1;
+    int v;
+}
