@@ -1,16 +1,15 @@
 -- Members that no earlier member doubles are members that stand apart.
-use Rattle.std.proofs.Common.{◌≡◌, ℕ, ◌<◌, ◌≤◌, Bool, true, false, not, ◌&&◌, List, length, get_or, take, Option, Some, None, refl, sym, ap, subst, ◌∙◌, arith}
-use Rattle.std.specs.List.{list_any, AllPairs, All}
+use Rattle.std.proofs.Common.{◌≡◌, ℕ, ◌<◌, Bool, true, false, ◌&&◌, List, length, get_or, take, Option, Some, None, refl, sym, ap, ◌∙◌, arith}
+use Rattle.std.specs.List.{AllPairs}
 use Rattle.std.specs.Option.{option_map_or}
 use Rattle.std.specs.Str.{bytes_eq}
 use Rattle.std.specs.Cmp.Lexicographic.{bytes_decides}
 use Rattle.std.proofs.lemmas.List.{get_or-take, get_or_default, length-take}
 use Rattle.std.proofs.lemmas.List.Folds.{list_any_at, list_any_none}
 use Rattle.nr_prog.specs.declared.pool.PoolEntry.{PoolEntry}
-use Rattle.nr_prog.specs.declared.fault.FormFault.{FormFault}
 use Rattle.nr_prog.specs.declared.fault.FormFault.TheVariants.{Doubled}
 use Rattle.nr_prog.specs.Pool.{text_at}
-use Rattle.nr_prog.specs.Members.{spells, is_spelled, is_in, is_among}
+use Rattle.nr_prog.specs.Members.{spells, is_spelled, is_in}
 use Rattle.nr_prog.specs.Rules.{doubled_fault}
 use Rattle.nr_prog.specs.Form.{AreApart}
 use Rattle.nr_prog.proofs.Members.{spells_at, among_at}

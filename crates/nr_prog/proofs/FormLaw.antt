@@ -1,6 +1,6 @@
 -- No rule is broken exactly where the parts keep the form.
-use Rattle.std.proofs.Common.{◌≡◌, ℕ, zero, suc, ◌+◌, ◌<◌, Bool, true, false, cond, eqb, List, length, get_or, take, Option, Some, None, Result, Ok, Err, IsTrue, refl, sym, ap, subst, ◌∙◌, arith, add-one}
-use Rattle.std.specs.List.{All, AllPairs, slice_get}
+use Rattle.std.proofs.Common.{◌≡◌, ℕ, zero, suc, ◌+◌, ◌<◌, Bool, true, false, cond, eqb, List, length, get_or, take, Option, Some, None, Result, Ok, Err, IsTrue, sym, subst, ◌∙◌, arith, add-one}
+use Rattle.std.specs.List.{All, AllPairs}
 use Rattle.std.specs.Option.{option_or}
 use Rattle.std.proofs.lemmas.Bool.{ne_eqb}
 use Rattle.std.proofs.lemmas.Option.{slice_get_within, get_or_from_slice_get, slice_get-get_or}
@@ -19,7 +19,7 @@ use Rattle.nr_prog.specs.Members.{is_class_named, is_in}
 use Rattle.nr_prog.specs.Rules.{entry_fault, pool_fault, class_fault, super_fault, classes_fault, name_fault, desc_fault, doubled_fault, constant_fault, field_fault, fields_fault, body_fault, method_fault, methods_fault, form_fault}
 use Rattle.nr_prog.specs.Form.{AreApart, IsFieldFormed, IsMethodFormed, IsFormed}
 use Rattle.nr_prog.proofs.NoFault.{both_none, none_or, passes, passed, each_none, none_of_each}
-use Rattle.nr_prog.proofs.Distinct.{has_text, HasTexts, IsNew, apart_of_new, new_of_apart}
+use Rattle.nr_prog.proofs.Distinct.{has_text, HasTexts, apart_of_new, new_of_apart}
 
 -- ---- entries
 

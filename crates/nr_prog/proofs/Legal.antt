@@ -1,5 +1,5 @@
 -- Tests of names.
-use Rattle.std.proofs.Common.{◌≡◌, ℕ, Bool, true, false, cond, ◌&&◌, List, Option, Some, None, ◌↔◌, IsTrue, refl, sym, ap, ◌∙◌}
+use Rattle.std.proofs.Common.{◌≡◌, ℕ, Bool, true, false, cond, ◌&&◌, List, Some, None, ◌↔◌, IsTrue, ap, ◌∙◌}
 use Rattle.std.specs.Bool.{one_answer}
 use Rattle.nr_base.specs.Names.{is_name}
 use Rattle.nr_base.specs.LegalNames.{IsClassName, class_from}

@@ -1,5 +1,5 @@
 -- Texts of the pool.
-use Rattle.std.proofs.Common.{◌≡◌, ℕ, ◌<◌, ◌^◌, List, length}
+use Rattle.std.proofs.Common.{◌<◌, ◌^◌, List}
 use Rattle.std.specs.List.{All, Contains}
 use Rattle.std.proofs.lemmas.List.Elements.{All-contains}
 use Rattle.nr_prog.specs.declared.pool.PoolEntry.{PoolEntry}

@@ -1,9 +1,9 @@
 -- The first fault of a check that looks at one thing after the other.
-use Rattle.std.specs.Prelude.{◌≡◌, ℕ, suc, ◌+◌, List, [], ◌∷◌, Option, Some, None, Bool, true, false, Result, Ok, Err, if◌then◌else◌}
+use Rattle.std.specs.Prelude.{◌≡◌, ℕ, ◌+◌, List, [], ◌∷◌, Option, Some, None, Bool, true, false, Result, Ok, Err, if◌then◌else◌}
 use Rattle.std.specs.Bool.{MatchBool}
 use Rattle.std.specs.Option.{option_or}
 use Rattle.nr_prog.specs.declared.fault.FormFault.{FormFault}
-use Rattle.nr_prog.specs.declared.fault.FormFault.TheVariants.{PoolKind, BadName, BadDesc, Doubled, CodePresence, OutOfProfile, NoMemory}
+use Rattle.nr_prog.specs.declared.fault.FormFault.TheVariants.{NoMemory}
 
 -- the fault where the test fails
 abbrev pub unless : Bool → FormFault → Option FormFault

@@ -1,5 +1,5 @@
 -- Fields and methods: JVM Specification 4.5, 4.6 and 4.7.
-use Rattle.std.specs.Prelude.{ℕ, ◌≤◌, List, [], ◌∷◌, length, Bool, true, false, not, ◌&&◌, ◌||◌, ◌==◌, nat_lt, nat_le, Option, Some, None, is_some, is_none, if◌then◌else◌, bit_and, codes}
+use Rattle.std.specs.Prelude.{ℕ, List, length, Bool, true, false, not, ◌&&◌, ◌||◌, ◌==◌, nat_lt, nat_le, Option, Some, None, is_some, is_none, if◌then◌else◌, bit_and, codes}
 use Rattle.std.specs.Str.{bytes_eq}
 use Rattle.std.specs.List.{list_any}
 use Rattle.std.specs.Option.{option_map_or}
@@ -7,11 +7,10 @@ use Rattle.nr_prog.specs.declared.pool.PoolEntry.{PoolEntry}
 use Rattle.nr_prog.specs.declared.pool.PoolEntry.TheVariants.{Class}
 use Rattle.nr_prog.specs.declared.form.constant.ConstantKind.{ConstantKind}
 use Rattle.nr_prog.specs.declared.form.constant.ConstantKind.TheVariants as kinds
-use Rattle.nr_prog.specs.declared.member.Field.{Field}
 use Rattle.nr_prog.specs.declared.member.Method.{Method}
 use Rattle.nr_prog.specs.declared.member.Code.{Code}
 use Rattle.nr_prog.specs.Pool.{names, text_at, is_integer, is_long, is_string}
-use Rattle.nr_prog.specs.Legal.{is_class_text, is_field_text, is_method_text, is_field_desc, is_method_desc, is_void_desc}
+use Rattle.nr_prog.specs.Legal.{is_class_text, is_void_desc}
 
 -- whether the index names a text that passes the test
 unfoldable pub spells : (List ℕ → Bool) → List PoolEntry → ℕ → Bool

@@ -1,14 +1,14 @@
 -- The first fault of a class file's form, rule by rule: JVM Specification 4, and the project's own profile. The
 -- order of the rules is the project's own.
-use Rattle.std.specs.Prelude.{◌≡◌, ℕ, zero, suc, ◌+◌, ◌<◌, ◌≤◌, ◌^◌, List, length, take, All, Bool, not, Option, Some, None, Result, Ok, Err, ◌==◌, if◌then◌else◌}
-use Rattle.std.specs.Option.{option_or, option_map_or}
+use Rattle.std.specs.Prelude.{ℕ, ◌+◌, List, take, Bool, not, Option, Some, ◌==◌, if◌then◌else◌}
+use Rattle.std.specs.Option.{option_or}
 use Rattle.nr_prog.specs.declared.pool.PoolEntry.{PoolEntry}
 use Rattle.nr_prog.specs.declared.member.Field.{Field}
 use Rattle.nr_prog.specs.declared.member.Method.{Method}
 use Rattle.nr_prog.specs.declared.parts.ClassParts.{ClassParts}
 use Rattle.nr_prog.specs.declared.fault.FormFault.{FormFault}
 use Rattle.nr_prog.specs.declared.fault.FormFault.TheVariants.{PoolKind, BadName, BadDesc, Doubled, CodePresence, OutOfProfile}
-use Rattle.nr_prog.specs.Pool.{is_entry_formed, text_len}
+use Rattle.nr_prog.specs.Pool.{is_entry_formed}
 use Rattle.nr_prog.specs.Faults.{first_fault, unless}
 use Rattle.nr_prog.specs.Legal.{is_field_text, is_method_text, is_field_desc, is_method_desc}
 use Rattle.nr_prog.specs.Members.{spells, is_class_named, is_in, is_among, is_constant_formed, is_profile_method, has_its_code}

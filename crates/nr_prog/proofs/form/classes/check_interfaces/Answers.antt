@@ -1,4 +1,3 @@
-use Rattle.std.proofs.Common.{rules, arith}
 use Rattle.std.proofs.lemmas.Result.{err_from_is_err_and}
 use Rattle.nr_prog.specs.Rules.{class_fault}
 use Rattle.nr_prog.proofs.Walks.{fails_in}

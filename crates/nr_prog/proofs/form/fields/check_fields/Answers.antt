@@ -1,6 +1,5 @@
 use Rattle.std.proofs.lemmas.List.{get_or_default}
 use Rattle.std.proofs.lemmas.Result.{err_from_is_err_and}
-use Rattle.nr_prog.specs.declared.member.Field.{Field}
 use Rattle.nr_prog.specs.Rules.{field_fault, fields_fault}
 use Rattle.nr_prog.specs.Seen.{has}
 use Rattle.nr_prog.proofs.SeenLaws.{has_none}

@@ -1,5 +1,4 @@
 use Rattle.std.proofs.lemmas.Result.{err_from_is_err_and}
-use Rattle.nr_prog.specs.declared.member.Method.{Method}
 use Rattle.nr_prog.specs.Rules.{method_fault, methods_fault}
 use Rattle.nr_prog.specs.Seen.{has}
 use Rattle.nr_prog.proofs.SeenLaws.{has_none}

@@ -1,4 +1,4 @@
-use Rattle.std.proofs.Common.{◌≡◌, not, ap, ◌∙◌}
+use Rattle.std.proofs.Common.{not, ap, ◌∙◌}
 use Rattle.nr_prog.proofs.SeenLaws.{contains_is_has, has_more}
 use Rattle.nr_prog.proofs.form.seen.add.Goals as goal
 
