@@ -1,5 +1,5 @@
 -- The laws of fields, methods and class files.
-use Rattle.std.proofs.Common.{◌≡◌, ℕ, Bool, true, false, eqb, List, [], ◌++◌, length, Option, None, refl, sym, ap, ◌∙◌, arith}
+use Rattle.std.proofs.Common.{◌≡◌, ℕ, ◌<◌, ◌^◌, Bool, true, false, eqb, List, [], ◌++◌, length, Option, None, refl, sym, ap, ◌∙◌, arith}
 use Rattle.std.specs.Prelude.{codes, ◌&&◌}
 use Rattle.std.specs.Int.{w16, w32, to_be_bytes}
 use Rattle.std.proofs.lemmas.Bool.{eqb-true}
@@ -57,7 +57,7 @@ magic_law = same_law (then_law four_law (λ m. pick_law (eqb m 0xCAFEBABE) (give
     (λ x text t. picked (eqb t.value 0xCAFEBABE) _ _ x t.back t.second
         (λ is g. t.whole ∙ ap (λ z. t.front ++ z) g.1 ∙ append-nil t.front ∙ t.first.1 ∙ ap (to_be_bytes w32) (eqb-true t.value 0xCAFEBABE is))
         (λ no g. absurd g))
-    (λ x text e. record { value = 0xCAFEBABE; front = text; back = []; first = (omega arith, e); second = (refl, refl); whole = sym (append-nil text) })
+    (λ x text e. let lt : 0xCAFEBABE < 256 ^ 4 = omega arith in record { value = 0xCAFEBABE; front = text; back = []; first = (lt, e); second = (refl, refl); whole = sym (append-nil text) })
 
 both : (a b : Bool) → (a && b) ≡ true → (a ≡ true) × (b ≡ true)
 both true true e = (refl, refl)
