@@ -1,0 +1,10 @@
+pub mod Faults
+pub mod Numbers
+pub mod PoolText
+pub mod PoolReading
+pub mod AttributeText
+pub mod AttributeReading
+pub mod MemberText
+pub mod MemberReading
+pub mod ClassText
+pub mod ClassReading
