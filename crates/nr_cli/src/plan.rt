@@ -1,10 +1,11 @@
 //! Does what the words say, as far as the folder goes.
-ghost use Rattle.std.specs.Prelude.{◌≡◌, ◌⊎◌, ◌≤◌, true, Some, None, option_copied, map};
+ghost use Rattle.std.specs.Prelude.{◌≡◌, ◌⊎◌, ◌≤◌, true, Some, None, option_copied, is_some, map};
 ghost use Rattle.std.specs.String.{string_bytes};
 ghost use Rattle.nr_outside.specs.Causes.{Rose};
+ghost use Rattle.nr_outside.specs.Folder.{file_at};
 ghost use Rattle.nr_cli.specs.Thin.{has_thin_code, is_thin, is_reserved};
 ghost use Rattle.nr_cli.specs.Words.{told, command_of};
-ghost use Rattle.nr_cli.specs.Plan.{run_code, run_class, of_paths, of_command, end_of, are_listed};
+ghost use Rattle.nr_cli.specs.Plan.{class_at_path, second_at_path, then_run, then_refuse, run_code, run_class, of_paths, of_command, end_of, are_listed};
 
 use crate::ending::End;
 use crate::load::{load_class, refuse_second, sorted_names};
@@ -47,6 +48,7 @@ fn end_of_code(alloc: Global, budget: u32, code: Option<&Code>) -> End
     requires { has_thin_code (option_copied code) ≡ true }
     ensures end { (result ≡ End.Memory) ⊎ (result ≡ run_code budget (option_copied code.entry)) }
     ensures words { result ≡ End.Words → ⊥ }
+    ensures folder { result ≡ End.Folder → ⊥ }
 {
     let Some(code) = code else {
         return End::Memory;
@@ -63,6 +65,7 @@ fn end_of_class(alloc: Global, command: &RunCommand<'_>, class: &Class) -> End
     requires { is_thin class.now ≡ true }
     ensures end { (result ≡ End.Memory) ⊎ (result ≡ run_class (told command.now) class.now) }
     ensures words { result ≡ End.Words → ⊥ }
+    ensures folder { result ≡ End.Folder → ⊥ }
 {
     let parts = class.parts();
     let Some(name) = own_name(parts) else {
@@ -75,6 +78,40 @@ fn end_of_class(alloc: Global, command: &RunCommand<'_>, class: &Class) -> End
         return no_class(alloc, command);
     }
     end_of_code(alloc, command.budget, code_of(parts))
+}
+
+// The end over one class file.
+fn end_of_one<F: Folder>(alloc: Global, command: &RunCommand<'_>, folder: &mut F, path: &str) -> End
+    ensures files { F.Tells → F.files folder.new ≡ F.files folder.old }
+    ensures end { F.Tells → (result ≡ End.Memory) ⊎ (result ≡ End.Folder)
+        ⊎ (result ≡ then_run (told command.now) (class_at_path path.now (file_at command.now.dir.now path.now (F.files folder.old)))) }
+    ensures words { result ≡ End.Words → ⊥ }
+    ensures faults { F.faults folder.old ≤ F.faults folder.new }
+    ensures cause { (F.Tells → is_some (file_at command.now.dir.now path.now (F.files folder.old)) ≡ true)
+        → result ≡ End.Folder → Rose (F.faults folder.old) (F.faults folder.new) }
+{
+    match load_class(alloc, folder, command.dir, path) {
+        Ok(class) => end_of_class(alloc, command, &class),
+        Err(end) => end,
+    }
+}
+
+// The end over two class files or more.
+fn end_of_two<F: Folder>(alloc: Global, dir: &str, folder: &mut F, path: &str, second: &str) -> End
+    ensures files { F.Tells → F.files folder.new ≡ F.files folder.old }
+    ensures end { F.Tells → (result ≡ End.Memory) ⊎ (result ≡ End.Folder)
+        ⊎ (result ≡ then_refuse (class_at_path path.now (file_at dir.now path.now (F.files folder.old)))
+            (second_at_path second.now (file_at dir.now second.now (F.files folder.old)))) }
+    ensures words { result ≡ End.Words → ⊥ }
+    ensures faults { F.faults folder.old ≤ F.faults folder.new }
+    ensures cause { (F.Tells → is_some (file_at dir.now path.now (F.files folder.old)) ≡ true)
+        → (F.Tells → is_some (file_at dir.now second.now (F.files folder.old)) ≡ true)
+        → result ≡ End.Folder → Rose (F.faults folder.old) (F.faults folder.new) }
+{
+    match load_class(alloc, folder, dir, path) {
+        Ok(_) => refuse_second(alloc, folder, dir, second),
+        Err(end) => end,
+    }
 }
 
 // The end over the class files at these paths.
@@ -94,14 +131,8 @@ fn end_of_paths<F: Folder>(
 {
     match paths {
         [] => no_class(alloc, command),
-        [path] => match load_class(alloc, folder, command.dir, path) {
-            Ok(class) => end_of_class(alloc, command, &class),
-            Err(end) => end,
-        },
-        [path, second, ..] => match load_class(alloc, folder, command.dir, path) {
-            Ok(_) => refuse_second(alloc, folder, command.dir, second),
-            Err(end) => end,
-        },
+        [path] => end_of_one(alloc, command, folder, path),
+        [path, second, ..] => end_of_two(alloc, command.dir, folder, path, second),
     }
 }
 

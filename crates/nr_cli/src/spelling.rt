@@ -78,10 +78,10 @@ fn put_form(alloc: Global, text: &mut Put, fault: FormFault) -> Result<(), Alloc
         FormFault::BadDesc(index) => put_numbered(alloc, text, "BadDesc ", u32::from(index)),
         FormFault::Doubled(index) => put_numbered(alloc, text, "Doubled ", u32::from(index)),
         FormFault::CodePresence(method) => {
-            put_numbered(alloc, text, "CodePresence ", u32::from(method))
+            text.bytes(format!(in alloc; "CodePresence {method}")?.as_bytes())
         }
         FormFault::OutOfProfile(method) => {
-            put_numbered(alloc, text, "OutOfProfile ", u32::from(method))
+            text.bytes(format!(in alloc; "OutOfProfile {method}")?.as_bytes())
         }
         FormFault::NoMemory => text.bytes(b"NoMemory"),
     }
@@ -110,7 +110,9 @@ fn put_fault(alloc: Global, text: &mut Put, fault: LoadFault) -> Result<(), Allo
 {
     match fault {
         LoadFault::Read(fault) => put_class(alloc, text, fault),
-        LoadFault::OutOfThinForm(at) => put_numbered(alloc, text, "OutOfThinForm ", at),
+        LoadFault::OutOfThinForm(at) => {
+            text.bytes(format!(in alloc; "OutOfThinForm {at}")?.as_bytes())
+        }
         LoadFault::FileTooLong => text.bytes(b"FileTooLong"),
     }
 }

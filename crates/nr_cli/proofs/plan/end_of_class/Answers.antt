@@ -1,0 +1,7 @@
+use Rattle.std.proofs.Common.{◌≡◌, true, ap, sym, ◌∙◌}
+use Rattle.nr_cli.specs.Thin.{has_thin_code}
+use Rattle.nr_cli.proofs.Runnable.{thin_code}
+use Rattle.nr_cli.proofs.plan.end_of_class.Goals as goal
+
+pub end_of_code-requires : goal.end_of_code-requires
+end_of_code-requires c = let thin = thin_code c.args.class.now c.requires in cc (thin, c.code_of.ensures, c.parts-parts.ensures.parts)
