@@ -1,5 +1,5 @@
 -- A class of the form has code that runs.
-use Rattle.std.proofs.Common.{◌≡◌, ℕ, ◌+◌, ◌≤◌, Bool, true, false, cond, List, [], ◌∷◌, length, Option, None, Some, refl, sym, ap, ◌∙◌, arith}
+use Rattle.std.proofs.Common.{◌≡◌, ◌+◌, Bool, true, false, cond, List, [], ◌∷◌, length, Some, refl, sym, ap, ◌∙◌, arith}
 use Rattle.std.specs.Prelude.{◌&&◌, ◌==◌, take_while, is_none, nat_le, codes}
 use Rattle.std.proofs.lemmas.Bool.{eqb-true}
 use Rattle.std.proofs.lemmas.List.Sums.{take_while-cons}
@@ -7,7 +7,7 @@ use Rattle.nr_prog.specs.declared.pool.PoolEntry.{PoolEntry}
 use Rattle.nr_prog.specs.declared.member.Method.{Method}
 use Rattle.nr_prog.specs.declared.member.Code.{Code}
 use Rattle.nr_prog.specs.declared.parts.ClassParts.{ClassParts}
-use Rattle.nr_cli.specs.Thin.{fits, is_thin_code, has_thin_code, is_main, first_other, is_thin, first_code, spells, is_text, class_text, is_class_flags}
+use Rattle.nr_cli.specs.Thin.{fits, has_thin_code, is_main, first_other, is_thin, first_code, spells, is_text, class_text, is_class_flags}
 
 second : (a b : Bool) → (a && b) ≡ true → b ≡ true
 second true b e = e

@@ -1,6 +1,6 @@
 -- Classes of the one form that runs so far. The form is the project's own; the flags and attributes are those of JVM
 -- Specification 4.1, 4.6 and 4.7.3.
-use Rattle.std.specs.Prelude.{ℕ, ◌+◌, ◌-◌, ◌&&◌, ◌||◌, ◌==◌, not, Bool, true, false, List, [], ◌∷◌, length, take_while, Option, None, Some, is_some, is_none, codes, cond, nat_le, nat_lt, nat_eq}
+use Rattle.std.specs.Prelude.{ℕ, ◌+◌, ◌-◌, ◌&&◌, ◌||◌, ◌==◌, Bool, false, List, [], ◌∷◌, length, take_while, Option, None, Some, is_none, codes, cond, nat_le, nat_lt, nat_eq}
 use Rattle.std.specs.List.{starts_with}
 use Rattle.std.specs.Str.{bytes_eq}
 use Rattle.nr_prog.specs.Pool.{entry_at, text_at}

@@ -101,7 +101,7 @@ fn end_of_two<F: Folder>(alloc: Global, dir: &str, folder: &mut F, path: &str, s
     ensures files { F.Tells → F.files folder.new ≡ F.files folder.old }
     ensures end { F.Tells → (result ≡ End.Memory) ⊎ (result ≡ End.Folder)
         ⊎ (result ≡ then_refuse (class_at_path path.now (file_at dir.now path.now (F.files folder.old)))
-            (second_at_path second.now (file_at dir.now second.now (F.files folder.old)))) }
+        (second_at_path second.now (file_at dir.now second.now (F.files folder.old)))) }
     ensures words { result ≡ End.Words → ⊥ }
     ensures faults { F.faults folder.old ≤ F.faults folder.new }
     ensures cause { (F.Tells → is_some (file_at dir.now path.now (F.files folder.old)) ≡ true)

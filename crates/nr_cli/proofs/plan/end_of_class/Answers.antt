@@ -1,5 +1,3 @@
-use Rattle.std.proofs.Common.{◌≡◌, true, ap, sym, ◌∙◌}
-use Rattle.nr_cli.specs.Thin.{has_thin_code}
 use Rattle.nr_cli.proofs.Runnable.{thin_code}
 use Rattle.nr_cli.proofs.plan.end_of_class.Goals as goal
 
