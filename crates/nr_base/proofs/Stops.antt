@@ -219,6 +219,20 @@ unfolding zeros
 length-zeros zero = refl
 length-zeros (suc k) = ap suc (length-zeros k)
 
+pub run_begins : (n : ℕ) → Begins (run n) []
+run_begins n = record { value = zeros n; back = zeros n; spelled = (length-zeros n, refl) }
+
+pub number_begins : (w : Width) → 0 < 256 ^ byte_len w → Begins (number w) []
+number_begins w some = record { value = 0; back = to_be_bytes w 0; spelled = (some, refl) }
+
+pub give_begins : {A : Type 0} (x : A) → Begins (give x) []
+give_begins x = record { value = x; back = []; spelled = (refl, refl) }
+
+pub then_begins : {A B : Type 0} {G : A → List ℕ → Type 0} {H : A → B → List ℕ → Type 0} → Begins G [] → ((x : A) → Begins (H x) []) → Begins (Then G H) []
+then_begins first second =
+    let later = second first.value in
+    record { value = later.value; back = first.back ++ later.back; spelled = record { value = first.value; front = first.back; back = later.back; first = first.spelled; second = later.spelled; whole = refl } }
+
 pub run_stops : (n : ℕ) → Stops (run_at n) (run n) short_tells
 run_stops n = record {
   stops = λ p e fits h.
@@ -228,7 +242,7 @@ run_stops n = record {
           front = [];
           total = refl;
           rest = refl;
-          begins = record { value = zeros n; back = zeros n; spelled = (length-zeros n, refl) };
+          begins = run_begins n;
           ends = inl (record { size = n; left = ltb-true _ _ g.0; due = λ x back t. omega (arith, t.0, ap length t.1) });
         },
         ap (λ (s : Short). s.at) (sym g.1),
@@ -244,7 +258,7 @@ number_stops w wide some = record {
           front = [];
           total = refl;
           rest = refl;
-          begins = record { value = 0; back = to_be_bytes w 0; spelled = (some, refl) };
+          begins = number_begins w some;
           ends = inl (record { size = byte_len w; left = ltb-true _ _ g.0; due = λ n back t. omega (arith, wide.len n, ap length t.1) });
         },
         ap (λ (s : Short). s.at) (sym g.1),
@@ -293,26 +307,26 @@ nothing_follows {A = A} {B = B} {G = G} H rs p q x a empty = record {
       empty y t.back (subst (λ (z : A). H z y t.back) same.value t.second);
 }
 
-chosen : {A B F : Type 0} {r : Reader F A} {G : A → List ℕ → Type 0} (f : A → Reader F B) (H : A → B → List ℕ → Type 0) {tells : F → ℕ → Type 0} (d e : F) (p q : Place) (x : A) → Reads r G → Begins (Then G H) [] → tells d (at_of p) → Took G x p q → f x q ≡ Err e → Fine (f x) (H x) tells ⊎ Refused (f x) (H x) d → (at : Place) × Stopped (Then G H) p at × tells e (at_of at)
+chosen : {A B F : Type 0} {r : Reader F A} {G : A → List ℕ → Type 0} (f : A → Reader F B) (H : A → B → List ℕ → Type 0) {tells : F → ℕ → Type 0} (d : A → F) (e : F) (p q : Place) (x : A) → Reads r G → Begins (Then G H) [] → tells (d x) (at_of p) → Took G x p q → f x q ≡ Err e → Fine (f x) (H x) tells ⊎ Refused (f x) (H x) (d x) → (at : Place) × Stopped (Then G H) p at × tells e (at_of at)
 chosen f H d e p q x rs begins told a h (inl g) =
     let s = g.stops.stops q e a.fits h in
     (s.0, stopped_second H rs p q s.0 x a s.1, s.2)
 chosen {F = F} f H {tells = tells} d e p q x rs begins told a h (inr g) =
-    let same = same_fault (f x q) d e (g.fails q) h in
+    let same = same_fault (f x q) (d x) e (g.fails q) h in
     (p, record { front = []; total = refl; rest = refl; begins = begins; ends = inr (nothing_follows H rs p q x a g.empty) }, subst (λ (z : F). tells z (at_of p)) same told)
 
-chosen_at : {A B F : Type 0} {r : Reader F A} {G : A → List ℕ → Type 0} {f : A → Reader F B} (H : A → B → List ℕ → Type 0) {tells : F → ℕ → Type 0} (d e : F) (p : Place) → Reads r G → Atomic r G tells → Begins (Then G H) [] → tells d (at_of p) → ((x : A) → Fine (f x) (H x) tells ⊎ Refused (f x) (H x) d) → (res : Result (A × Place) F) → IsBytes p.rest → r p ≡ res → after res f ≡ Err e → (at : Place) × Stopped (Then G H) p at × tells e (at_of at)
+chosen_at : {A B F : Type 0} {r : Reader F A} {G : A → List ℕ → Type 0} {f : A → Reader F B} (H : A → B → List ℕ → Type 0) {tells : F → ℕ → Type 0} (d : A → F) (e : F) (p : Place) → Reads r G → Atomic r G tells → Begins (Then G H) [] → ((x : A) → tells (d x) (at_of p)) → ((x : A) → Fine (f x) (H x) tells ⊎ Refused (f x) (H x) (d x)) → (res : Result (A × Place) F) → IsBytes p.rest → r p ≡ res → after res f ≡ Err e → (at : Place) × Stopped (Then G H) p at × tells e (at_of at)
 chosen_at {f = f} H d e p rs ss begins told each (Ok x) fits h i =
     let a = rs.found p x.1 x.0 fits h in
-    chosen f H d e p x.1 x.0 rs begins told a i (each x.0)
+    chosen f H d e p x.1 x.0 rs begins (told x.0) a i (each x.0)
 chosen_at {F = F} H {tells = tells} d e p rs ss begins told each (Err c) fits h i =
     let same : c ≡ e = cc in
     let s = ss.blocked p c fits h in
     (p, record { front = []; total = refl; rest = refl; begins = begins; ends = cut_off H rs p c h s.0 }, subst (λ (z : F). tells z (at_of p)) same s.1)
 
 -- an item by which what follows is chosen; where nothing may follow, the fault is that of its place
-pub chosen_stops : {A B F : Type 0} {r : Reader F A} {G : A → List ℕ → Type 0} {f : ℕ → A → Reader F B} {H : A → B → List ℕ → Type 0} {tells : F → ℕ → Type 0} (d : ℕ → F)
-    → Reads r G → Atomic r G tells → Begins (Then G H) [] → ((at : ℕ) → tells (d at) at) → ((at : ℕ) (x : A) → Fine (f at x) (H x) tells ⊎ Refused (f at x) (H x) (d at)) → Stops (from (λ at. bind r (f at))) (Then G H) tells
+pub chosen_stops : {A B F : Type 0} {r : Reader F A} {G : A → List ℕ → Type 0} {f : ℕ → A → Reader F B} {H : A → B → List ℕ → Type 0} {tells : F → ℕ → Type 0} (d : ℕ → A → F)
+    → Reads r G → Atomic r G tells → Begins (Then G H) [] → ((at : ℕ) (x : A) → tells (d at x) at) → ((at : ℕ) (x : A) → Fine (f at x) (H x) tells ⊎ Refused (f at x) (H x) (d at x)) → Stops (from (λ at. bind r (f at))) (Then G H) tells
 unfolding from bind
 chosen_stops {r = r} {H = H} d rs ss begins told each = record { stops = λ p e fits h. chosen_at H (d (at_of p)) e p rs ss begins (told (at_of p)) (each (at_of p)) (r p) fits refl h }
 
