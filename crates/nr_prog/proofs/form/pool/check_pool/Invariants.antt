@@ -1,0 +1,7 @@
+use Rattle.std.proofs.Common.{◌≡◌, drop}
+use Rattle.nr_prog.specs.Faults.{first_fault}
+use Rattle.nr_prog.specs.Rules.{entry_fault}
+use Rattle.nr_prog.proofs.form.pool.check_pool.Given as goal
+
+abbrev pub invariant-loop-place : goal.invariant-loop-place
+invariant-loop-place l = first_fault (entry_fault l.pool) l.place (drop l.place l.pool) ≡ first_fault (entry_fault l.pool) 0 l.pool

@@ -1,0 +1,62 @@
+//! Classes.
+
+ghost use Rattle.std.specs.Prelude.{◌≡◌, IfOk, Ok};
+ghost use Rattle.nr_base.specs.Clauses.{GivesWhole};
+ghost use Rattle.nr_prog.specs.Faults.{is_free};
+ghost use Rattle.nr_prog.specs.Form.{IsFormed, IsWithinBounds, class_of};
+
+use crate::fault::FormFault;
+use crate::form::check_form;
+use crate::parts::ClassParts;
+use std::alloc::Global;
+use std::marker::Model;
+
+/// The parts of a class file that keep the form (JVM Specification 4, in the project's own profile).
+/// Contracts see a class as its parts.
+#[derive(Debug, Drop)]
+pub struct Class {
+    parts: ClassParts,
+}
+
+impl Model for Class {
+    ghost use Rattle.std.specs.Prelude.{◌≡◌, None};
+    ghost use Rattle.nr_prog.specs.declared.parts.ClassParts.{ClassParts};
+    ghost use Rattle.nr_prog.specs.Form.{IsWithinBounds};
+    ghost use Rattle.nr_prog.specs.Rules.{form_fault};
+
+    ghost Value = { ClassParts };
+
+    ghost view = { λ c. c.parts };
+
+    ghost invariant = { λ c. (form_fault c.parts ≡ None) × IsWithinBounds c.parts };
+}
+
+impl Class {
+    /// The class of the parts.
+    ///
+    /// # Errors
+    ///
+    /// The first fault of their form, in this order: of the entries of the constant pool, by index; of
+    /// the class, its superclass and its superinterfaces; of each field, its name, its descriptor, that
+    /// both stand at no earlier field, and its constant value; and of each method, its name, its
+    /// descriptor, that both stand at no earlier method, the profile, and its code. `NoMemory` for want
+    /// of memory.
+    pub fn from_parts(alloc: Global, parts: ClassParts) -> Result<Class, FormFault>
+        requires { IsWithinBounds parts }
+        ensures formed { IfOk result (λ c. (c ≡ parts) × IsFormed parts) }
+        ensures only { IsFormed parts → GivesWhole is_free result (Ok parts) }
+        ensures exact { GivesWhole is_free result (class_of parts) }
+    {
+        check_form(alloc, &parts)?;
+        Ok(Class { parts })
+    }
+
+    /// The parts of the class.
+    pub fn parts(&self) -> &ClassParts
+        ensures parts { result.now ≡ self.now }
+        ensures formed { IsFormed self.now }
+        ensures bounds { IsWithinBounds self.now }
+    {
+        &self.parts
+    }
+}
