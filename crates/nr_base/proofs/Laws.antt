@@ -135,6 +135,9 @@ sized_ok len before e (Ok x) y h =
     record { was = ap (λ (z : _ × Place). Ok z) g.1; size = eqb-true _ _ g.0 ∙ ap (λ (z : _ × Place). length z.1.rest + len) g.1 }
 sized_ok len before e (Err f) y h = absurd cc
 
+pub sized_was : {A F : Type 0} (len before : ℕ) (e : F) (r : Result (A × Place) F) (y : A × Place) → checked_size len e before r ≡ Ok y → r ≡ Ok y
+sized_was len before e r y h = (sized_ok len before e r y h).was
+
 pub sized_law : {A F : Type 0} (len : ℕ) (e : F) {r : Reader F A} {G : A → List ℕ → Type 0} → Reads r G → Reads (sized len e r) (Sized len G)
 unfolding sized
 sized_law len e {r = r} rs = record {

@@ -18,3 +18,4 @@ pub mod ClassLaw
 pub mod ClassNames
 pub mod DescLaws
 pub mod MethodLaws
+pub mod Stops

@@ -1,6 +1,7 @@
 -- A list that is read one item behind the other, a value made of one that was read, and tags.
 use Rattle.std.proofs.Common.{◌≡◌, ℕ, zero, suc, ◌<◌, Bool, true, false, List, [], ◌∷◌, ◌++◌, length, refl, sym, ap, subst, ◌∙◌, append_assoc}
 use Rattle.std.specs.Int.{w8}
+use Rattle.std.specs.List.{AllByRecursion, flat_map}
 use Rattle.std.proofs.lemmas.List.{append-nil}
 use Rattle.nr_base.specs.Reader.{Reader, onto, times}
 use Rattle.nr_base.specs.Grammar.{number, give, Then, pick, Times, Each, tagged}
@@ -37,6 +38,17 @@ pub from_tagged : {A : Type 0} {H : ℕ → A → List ℕ → Type 0} {x : A} {
 from_tagged tag lt g = record { value = tag; front = tag ∷ []; back = g.0; first = (lt, sym (byte_alone tag lt)); second = g.2; whole = g.1 }
 
 -- ---- lists
+
+-- the texts of values that each have one text
+pub spells_all : {A : Type 0} (P : A → Type 0) (f : A → List ℕ) (xs : List A) (text : List ℕ) → Each (λ x t. P x × (t ≡ f x)) xs text → AllByRecursion P xs × (text ≡ flat_map f xs)
+spells_all P f [] text e = (tt, e)
+spells_all P f (x ∷ xs) text e =
+    let more = spells_all P f xs e.1 e.3 in
+    ((e.2.0, more.0), e.4 ∙ ap (λ z. z ++ e.1) e.2.1 ∙ ap (λ z. f x ++ z) more.1)
+
+pub all_spelled : {A : Type 0} (P : A → Type 0) (f : A → List ℕ) (xs : List A) (text : List ℕ) → AllByRecursion P xs → text ≡ flat_map f xs → Each (λ x t. P x × (t ≡ f x)) xs text
+all_spelled P f [] text each e = e
+all_spelled P f (x ∷ xs) text each e = (f x, flat_map f xs, (each.0, refl), all_spelled P f xs (flat_map f xs) each.1 refl, e)
 
 abbrev Onto : {A : Type 0} → (A → List ℕ → Type 0) → List A → List A → List ℕ → Type 0
 Onto G xs = Then G (λ x. give (xs ++ x ∷ []))

@@ -1,18 +1,18 @@
 -- A name that is read is the modified UTF-8 of units, and each such text is read.
-use Rattle.std.proofs.Common.{◌≡◌, ℕ, ◌+◌, ◌-◌, ◌*◌, ◌<◌, true, leb, length, List, [], ◌∷◌, ◌++◌, Result, Ok, Err, refl, sym, ap, subst, ◌∙◌, arith}
+use Rattle.std.proofs.Common.{◌≡◌, ℕ, ◌+◌, ◌-◌, ◌*◌, ◌<◌, true, leb, length, List, [], ◌∷◌, ◌++◌, Result, Ok, Err, refl, sym, ap, subst, arith}
 use Rattle.std.specs.Prelude.{IfOk, is_ok}
-use Rattle.std.specs.List.{AllByRecursion, flat_map}
 use Rattle.std.specs.Int.{w8}
 use Rattle.nr_base.specs.Place.{Place, start_of}
 use Rattle.nr_base.specs.Reader.{onto, bind, pure, to_end, after, Advances}
 use Rattle.nr_base.specs.Clauses.{GivesWhole}
-use Rattle.nr_base.specs.Grammar.{IsBytes, Each}
-use Rattle.nr_base.specs.ModifiedUtf8.{within, unit_bytes, IsUnit, IsModifiedUtf8, unit}
+use Rattle.nr_base.specs.Grammar.{IsBytes}
+use Rattle.nr_base.specs.ModifiedUtf8.{within, unit_bytes, IsUnit, IsModifiedUtf8}
 use Rattle.nr_base.specs.Names.{is_free, byte_at, six_bits_at, two_at, three_at, unit_at, units_of, named, name_of}
 use Rattle.nr_base.specs.declared.name.fault.NameFault.{NameFault}
 use Rattle.nr_base.specs.declared.name.fault.NameFault.TheVariants as faults
 use Rattle.nr_base.proofs.Takes.{TakesAll, pure_takes, refuse_takes, bind_takes, choose_takes, fewer_takes, from_takes, with_fault_takes, number_takes, onto_takes, advances}
 use Rattle.nr_base.proofs.Ends.{goes_on_to_end, stops_to_end, ends}
+use Rattle.nr_base.proofs.Lists.{spells_all, all_spelled}
 use Rattle.nr_base.proofs.ToEnd.{to_end_found, to_end_only}
 use Rattle.nr_base.proofs.Units.{unit_law}
 
@@ -43,24 +43,14 @@ unit_takes = from_takes 1 (λ at. bind_takes 1 0 (byte_takes at) (λ first.
 
 -- ---- texts of units
 
-pub from_each : (units text : List ℕ) → Each unit units text → AllByRecursion IsUnit units × (text ≡ flat_map unit_bytes units)
-from_each [] text e = (tt, e)
-from_each (u ∷ units) text e =
-    let more = from_each units e.1 e.3 in
-    ((e.2.0, more.0), e.4 ∙ ap (λ z. z ++ e.1) e.2.1 ∙ ap (λ z. unit_bytes u ++ z) more.1)
-
-pub to_each : (units text : List ℕ) → AllByRecursion IsUnit units → text ≡ flat_map unit_bytes units → Each unit units text
-to_each [] text each e = e
-to_each (u ∷ units) text each e = (unit_bytes u, flat_map unit_bytes units, (each.0, refl), to_each units (flat_map unit_bytes units) each.1 refl, e)
-
 units_found : (bytes : List ℕ) (x : List ℕ × Place) → IsBytes bytes → units_of bytes ≡ Ok x → IsModifiedUtf8 bytes
 units_found bytes x fits e =
     let a = to_end_found unit_law unit_takes [] x.0 (start_of bytes) x.1 fits e in
-    let f = from_each a.items bytes a.each in
+    let f = spells_all IsUnit unit_bytes a.items bytes a.each in
     record { units = a.items; each = f.0; spelled = f.1 }
 
 units_only : (bytes : List ℕ) (m : IsModifiedUtf8 bytes) → units_of bytes ≡ Ok (m.units, record { total = length bytes; rest = [] })
-units_only bytes m = to_end_only unit_law unit_takes (length bytes) [] m.units bytes (to_each m.units bytes m.each m.spelled)
+units_only bytes m = to_end_only unit_law unit_takes (length bytes) [] m.units bytes (all_spelled IsUnit unit_bytes m.units bytes m.each m.spelled)
 
 -- ---- names
 

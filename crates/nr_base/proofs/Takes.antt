@@ -5,8 +5,8 @@ use Rattle.std.proofs.lemmas.Bool.{ltb-false}
 use Rattle.std.proofs.lemmas.List.{length-drop}
 use Rattle.nr_base.specs.Place.{Place, at_of, skip}
 use Rattle.nr_base.specs.Bytes.{number_at, run_at, short_at}
-use Rattle.nr_base.specs.Reader.{Reader, bind, pure, refuse, choose, from, with_fault, onto, repeat, while_more, spanned, Advances}
-use Rattle.nr_base.proofs.Laws.{bind_ok, guard_ok, ok_is, map_fault_ok}
+use Rattle.nr_base.specs.Reader.{Reader, bind, pure, refuse, choose, from, with_fault, onto, times, repeat, while_more, sized, spanned, Advances}
+use Rattle.nr_base.proofs.Laws.{bind_ok, guard_ok, ok_is, map_fault_ok, sized_was}
 use Rattle.nr_base.proofs.Spans.{span_ok}
 
 pub record TakesAll {A F : Type 0} (n : ℕ) (r : Reader F A) : Type 0 where
@@ -79,3 +79,12 @@ repeat_takes step takes (suc k) s = bind_takes 1 0 (takes s) (λ x. choose_takes
 pub while_takes : {S F : Type 0} (step : S → Reader F (Bool × S)) → ((s : S) → TakesAll 1 (step s)) → (s : S) → TakesAll 1 (while_more step s)
 unfolding while_more
 while_takes step takes s = record { takes = λ p q x e. (repeat_takes step takes (length p.rest) s).takes p q x e }
+
+pub times_takes : {S F : Type 0} (step : S → Reader F S) → ((s : S) → TakesAll 0 (step s)) → (k : ℕ) (s : S) → TakesAll 0 (times step k s)
+unfolding times
+times_takes step takes zero s = pure_takes s
+times_takes step takes (suc k) s = bind_takes 0 0 (takes s) (λ t. times_takes step takes k t)
+
+pub sized_takes : {A F : Type 0} (n len : ℕ) (d : F) {r : Reader F A} → TakesAll n r → TakesAll n (sized len d r)
+unfolding sized
+sized_takes n len d {r = r} rs = record { takes = λ p q x e. rs.takes p q x (sized_was len (length p.rest) d (r p) (x, q) e) }

@@ -28,8 +28,7 @@ pub record IsClassName (name : List ℕ) : Type 0 where
   pub each : AllByRecursion (λ part. IsTrue (is_unqualified part)) (first ∷ others)
   pub joined : name ≡ join_with_byte 0x2F (first ∷ others)
 
--- The same as a test: whether a class name can go on so, where a part has begun or not. The laws of
--- `proofs/LegalNames` tie the two.
+-- The same as a test: whether a class name can go on so, where a part of it has begun or not.
 abbrev pub class_from : Bool → List ℕ → Bool
 class_from begun [] = begun
 class_from begun (b ∷ bytes) =

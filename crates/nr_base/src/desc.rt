@@ -3,7 +3,7 @@
 ghost use Rattle.std.specs.Prelude.{◌≡◌, ◌<◌, ◌^◌, length, IfOk, Ok};
 ghost use Rattle.nr_base.specs.Clauses.{GivesWhole};
 ghost use Rattle.nr_base.specs.DescReading.{is_free, desc_of, method_of};
-ghost use Rattle.nr_base.specs.Descs.{desc, method_desc, slots};
+ghost use Rattle.nr_base.specs.Descs.{desc, method_desc, slots, slots_of};
 ghost use Rattle.nr_base.specs.declared.desc.types.Desc.{Desc as DescView};
 ghost use Rattle.nr_base.specs.declared.desc.types.MethodDesc.{MethodDesc as MethodView};
 
@@ -48,6 +48,19 @@ impl Desc {
         ensures exact { GivesWhole is_free result (desc_of bytes.now) }
     {
         whole_desc(alloc, bytes)
+    }
+
+    /// How many slots a value of the type takes: two for a long, else one.
+    pub fn slots(&self) -> usize
+        ensures { result ≡ slots_of self.now }
+    {
+        match self {
+            Desc {
+                dims: 0,
+                base: DescBase::Long,
+            } => 2,
+            _ => 1,
+        }
     }
 }
 
@@ -97,22 +110,5 @@ impl MethodDesc {
             count += param.slots();
         }
         count
-    }
-}
-
-impl Desc {
-    ghost use Rattle.nr_base.specs.Descs.{slots_of};
-
-    /// How many slots a value of the type takes: two for a long, else one.
-    pub fn slots(&self) -> usize
-        ensures { result ≡ slots_of self.now }
-    {
-        match self {
-            Desc {
-                dims: 0,
-                base: DescBase::Long,
-            } => 2,
-            _ => 1,
-        }
     }
 }

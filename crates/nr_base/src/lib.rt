@@ -1,4 +1,5 @@
-//! Places, readers, writers and grammars; names and descriptors.
+//! Places, readers, writers and grammars; names and descriptors. What the repository reads or writes
+//! as bytes stands on this crate: `docs/READING_BYTES.md` shows how.
 #![tactic(auto)]
 
 mod cur;
@@ -7,14 +8,12 @@ mod items;
 mod name;
 mod put;
 mod result_word;
+#[cfg(test)]
+mod tests;
 
 pub use cur::{Cur, Short};
 pub use desc::{Desc, DescBase, DescFault, MethodDesc};
 pub use items::Items;
 pub use name::{Name, NameFault};
 pub use put::Put;
-
-#[cfg(test)]
-mod tests;
-
 pub use result_word::ResultWord;

@@ -16,7 +16,8 @@ use std::alloc::{AllocError, Global};
 use std::marker::Model;
 pub use unit::read_unit;
 
-/// Bytes in modified UTF-8 without U+0000 (JVM Specification 4.4.7). Contracts see a name as its bytes.
+/// At most 65,535 bytes in modified UTF-8 without U+0000 (JVM Specification 4.4.7). Contracts see a name
+/// as its bytes. Names are compared byte by byte.
 #[derive(Debug, Drop, PartialEq, Eq, PartialOrd, Ord, Hash)]
 pub struct Name {
     bytes: Items<u8>,

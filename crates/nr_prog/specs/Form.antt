@@ -31,12 +31,16 @@ pub record IsMethodFormed (pool : List PoolEntry) (m : Method) : Type 0 where
 
 -- the parts of a class file keep the form
 pub record IsFormed (c : ClassParts) : Type 0 where
+  -- the constant pool (4.4)
   pub entries : (index : ℕ) (e : PoolEntry) → entry_at c.pool index ≡ Some e → IsTrue (is_entry_formed c.pool index e)
+  -- this class, its superclass and its direct superinterfaces (4.1)
   pub this : IsTrue (is_class_named c.pool c.this_class)
   pub above : IsTrue (is_class_named c.pool c.super_class)
   pub interfaces : All (λ index. IsTrue (is_class_named c.pool index)) c.interfaces
+  -- fields, of which no two have the same name and descriptor (4.5)
   pub fields : All (IsFieldFormed c.pool) c.fields
   pub apart_fields : AllPairs (λ f g. AreApart c.pool f.name f.desc g.name g.desc) c.fields
+  -- methods, likewise (4.6)
   pub methods : All (IsMethodFormed c.pool) c.methods
   pub apart_methods : AllPairs (λ m n. AreApart c.pool m.name m.desc n.name n.desc) c.methods
 

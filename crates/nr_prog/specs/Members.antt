@@ -36,7 +36,7 @@ is_spelled pool name desc n d = spells (bytes_eq name) pool n && spells (bytes_e
 unfoldable pub is_in : {X : Type 0} → (X → ℕ) → (X → ℕ) → List PoolEntry → List X → List ℕ → List ℕ → Bool
 is_in name_of desc_of pool members name desc = list_any (λ m. is_spelled pool name desc (name_of m) (desc_of m)) members
 
--- whether the texts that the indices name are a name and a descriptor of the earlier members
+-- whether the indices name the name and the descriptor of an earlier member, where `earlier` tells which those are
 unfoldable pub is_among : (List ℕ → List ℕ → Bool) → List PoolEntry → ℕ → ℕ → Bool
 is_among earlier pool n d = spells (λ name. spells (earlier name) pool d) pool n
 
@@ -81,13 +81,13 @@ abbrev pub is_initialiser_formed : List ℕ → Bool → ℕ → Bool
 is_initialiser_formed name void flags =
     not (bytes_eq name (codes "<init>")) || (not (is_static flags) && not (is_abstract flags) && void)
 
--- code has 1 to 65,535 bytes (4.7.3; the project's own rule leaves out 65,536 and more)
+-- code has 1 to 65,535 bytes (4.7.3, code_length)
 abbrev pub is_code_sized : Option Code → Bool
 is_code_sized None = true
 is_code_sized (Some code) = nat_lt 0 (length code.bytes) && nat_le (length code.bytes) 65535
 
--- A method of the name, which returns nothing or something: not native, not synchronized, not both static and
--- abstract. The profile is the project's own.
+-- A method of the name, which returns nothing or something: not both static and abstract (4.6), and neither native nor
+-- synchronized, by the project's own rule.
 unfoldable pub is_in_profile : List ℕ → Bool → Method → Bool
 is_in_profile name void m =
     not (is_native m.flags) && not (is_synchronized m.flags)

@@ -39,7 +39,7 @@ classes_fault pool this above interfaces =
 abbrev pub members_fault : {X : Type 0} → (X → ℕ) → (X → ℕ) → ((List ℕ → List ℕ → Bool) → ℕ → X → Option FormFault) → List PoolEntry → List X → Option FormFault
 members_fault name_of desc_of fault pool members = first_fault (λ place m. fault (is_in name_of desc_of pool (take place members)) place m) 0 members
 
--- a legal name, a legal descriptor, and not both of them earlier
+-- the rules on one field or method, one after the other
 unfoldable pub name_fault : (List ℕ → Bool) → List PoolEntry → ℕ → Option FormFault
 name_fault is_legal pool index = unless (spells is_legal pool index) (BadName index)
 
