@@ -51,13 +51,16 @@ method_law es = then_law two_law (λ flags. then_law two_law (λ name. then_law 
 
 -- ---- the file
 
+magic_fits : 0xCAFEBABE < 256 ^ 4
+magic_fits = omega arith
+
 magic_law : Reads magic_at magic
 unfolding magic_at
 magic_law = same_law (then_law four_law (λ m. pick_law (eqb m 0xCAFEBABE) (give_law tt) (none_law faults.BadMagic)))
     (λ x text t. picked (eqb t.value 0xCAFEBABE) _ _ x t.back t.second
         (λ is g. t.whole ∙ ap (λ z. t.front ++ z) g.1 ∙ append-nil t.front ∙ t.first.1 ∙ ap (to_be_bytes w32) (eqb-true t.value 0xCAFEBABE is))
         (λ no g. absurd g))
-    (λ x text e. let lt : 0xCAFEBABE < 256 ^ 4 = omega arith in record { value = 0xCAFEBABE; front = text; back = []; first = (lt, e); second = (refl, refl); whole = sym (append-nil text) })
+    (λ x text e. record { value = 0xCAFEBABE; front = text; back = []; first = (magic_fits, e); second = (refl, refl); whole = sym (append-nil text) })
 
 both : (a b : Bool) → (a && b) ≡ true → (a ≡ true) × (b ≡ true)
 both true true e = (refl, refl)
