@@ -50,7 +50,8 @@ CAFEBABE 0000 0032 0001 0021 0000 0000 0000 0000 0000 0000|Form(BadName(0))
 
 // The first 57 bytes of a file: up to the interfaces, with the texts Code, ConstantValue and StackMapTable at the
 // indices 1, 2 and 3.
-const BASE: &[u8] = b"\xCA\xFE\xBA\xBE\0\0\0\x32\0\x04\x01\0\x04Code\x01\0\x0DConstantValue\x01\0\x0DStackMapTable\0\x21\0\0\0\0\0\0";
+const BASE: &[u8] =
+    b"\xCA\xFE\xBA\xBE\0\0\0\x32\0\x04\x01\0\x04Code\x01\0\x0DConstantValue\x01\0\x0DStackMapTable\0\x21\0\0\0\0\0\0";
 
 // What stands behind them, and the fault.
 const MEMBERS: &str = "\

@@ -37,7 +37,11 @@ fn list_code(out: &mut String, code: &Code) -> Result<(), AllocError> {
 }
 
 fn list_method(out: &mut String, method: &Method) -> Result<(), AllocError> {
-    writeln!(out, "method {} {} {}", method.flags, method.name, method.desc)?;
+    writeln!(
+        out,
+        "method {} {} {}",
+        method.flags, method.name, method.desc
+    )?;
     if let Some(code) = &method.code {
         list_code(out, code)?;
     }
