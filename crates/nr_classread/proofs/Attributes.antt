@@ -1,5 +1,5 @@
 -- The laws of attributes.
-use Rattle.std.proofs.Common.{◌≡◌, ℕ, ◌<◌, ◌^◌, Bool, true, false, List, [], ◌∷◌, ◌++◌, length, Option, Some, None, refl, sym, ap, subst, ◌∙◌}
+use Rattle.std.proofs.Common.{◌≡◌, ℕ, ◌<◌, ◌^◌, true, false, List, ◌++◌, length, Option, Some, None, refl, sym, ap, subst, ◌∙◌}
 use Rattle.std.specs.Prelude.{is_some}
 use Rattle.std.specs.Int.{w16, w32, to_be_bytes}
 use Rattle.nr_base.specs.Grammar.{Grammar, number, run, give, none, Then, pick, Sized}
@@ -8,7 +8,7 @@ use Rattle.nr_base.proofs.Lists.{leaf, made, picked, picks_first, picks_second}
 use Rattle.nr_prog.specs.declared.pool.PoolEntry.{PoolEntry}
 use Rattle.nr_classread.specs.declared.fault.ClassFault.TheVariants as faults
 use Rattle.nr_classread.specs.Numbers.{Read, u2, u4}
-use Rattle.nr_classread.specs.AttributeText.{is_named, IsAttribute, IsRead, IsSkipped, attribute, IsIgnored}
+use Rattle.nr_classread.specs.AttributeText.{is_named, IsAttribute, IsRead, IsSkipped, attribute}
 use Rattle.nr_classread.specs.AttributeReading.{skip_at, attribute_at, ignored_at}
 use Rattle.nr_classread.specs.ClassText.{ignored}
 use Rattle.nr_classread.proofs.Pools.{two_law, four_law, bytes_law}
@@ -73,12 +73,12 @@ reads pool known G y name front back text n named t outer =
 to_cases : {A : Type 0} (pool : List PoolEntry) (known : List ℕ) (G : A → List ℕ → Type 0) (seen y : Option A) (text : List ℕ) → in_order pool known G seen y text → attribute pool known G seen y text
 to_cases pool known G None y text t =
     picked (is_named pool known t.value) (sized G) (unchanged None) y t.back t.second
-        (λ named g. let r = reads pool known G y t.value t.front t.back text t.first named g t.whole in subst (λ z. attribute pool known G None z text) (sym r.1) r.2)
-        (λ other g. let s = skips pool known None y t.value t.front t.back text t.first other g t.whole in subst (λ z. attribute pool known G None z text) (sym s.0) s.1)
+    (λ named g. let r = reads pool known G y t.value t.front t.back text t.first named g t.whole in subst (λ z. attribute pool known G None z text) (sym r.1) r.2)
+    (λ other g. let s = skips pool known None y t.value t.front t.back text t.first other g t.whole in subst (λ z. attribute pool known G None z text) (sym s.0) s.1)
 to_cases pool known G (Some x) y text t =
     picked (is_named pool known t.value) none (unchanged (Some x)) y t.back t.second
-        (λ named g. absurd g)
-        (λ other g. let s = skips pool known (Some x) y t.value t.front t.back text t.first other g t.whole in subst (λ z. attribute pool known G (Some x) z text) (sym s.0) (refl, s.1))
+    (λ named g. absurd g)
+    (λ other g. let s = skips pool known (Some x) y t.value t.front t.back text t.first other g t.whole in subst (λ z. attribute pool known G (Some x) z text) (sym s.0) (refl, s.1))
 
 -- ---- and back
 
@@ -90,7 +90,9 @@ skipped_back contents fits = record { value = length contents; front = to_be_byt
 
 from_skipped : {A : Type 0} (pool : List PoolEntry) (known : List ℕ) (G : A → List ℕ → Type 0) (seen : Option A) (text : List ℕ) → IsSkipped pool known text → in_order pool known G seen seen text
 from_skipped pool known G seen text s = record {
-  value = s.name; front = to_be_bytes w16 s.name; back = behind s.contents;
+  value = s.name;
+  front = to_be_bytes w16 s.name;
+  back = behind s.contents;
   first = (s.attribute.name_fits, refl);
   second = picks_second (is_named pool known s.name) _ (unchanged seen) seen (behind s.contents) s.other (made {f = λ u. seen} tt (behind s.contents) (skipped_back s.contents s.attribute.length_fits));
   whole = s.attribute.whole;
@@ -98,7 +100,9 @@ from_skipped pool known G seen text s = record {
 
 from_read : {A : Type 0} (pool : List PoolEntry) (known : List ℕ) (G : A → List ℕ → Type 0) (x : A) (text : List ℕ) → IsRead pool known G x text → in_order pool known G None (Some x) text
 from_read pool known G x text r = record {
-  value = r.name; front = to_be_bytes w16 r.name; back = behind r.contents;
+  value = r.name;
+  front = to_be_bytes w16 r.name;
+  back = behind r.contents;
   first = (r.attribute.name_fits, refl);
   second = picks_first (is_named pool known r.name) (sized G) _ (Some x) (behind r.contents) r.named
       (record { value = length r.contents; front = to_be_bytes w32 (length r.contents); back = r.contents; first = (r.attribute.length_fits, refl); second = made x r.contents (r.value, refl); whole = refl });

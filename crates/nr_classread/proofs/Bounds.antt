@@ -1,11 +1,10 @@
 -- The counts of a class file are numbers of 16 bits, so its parts are within the bounds of a class.
-use Rattle.std.proofs.Common.{◌≡◌, ℕ, zero, suc, ◌-◌, ◌<◌, ◌≤◌, ◌^◌, Bool, true, false, List, [], ◌∷◌, ◌++◌, length, Option, Some, None, sym, ap, subst, arith}
-use Rattle.std.specs.Prelude.{codes}
+use Rattle.std.proofs.Common.{ℕ, zero, suc, ◌<◌, ◌≤◌, ◌^◌, Bool, true, false, List, [], ◌∷◌, length, Option, Some, None, sym, ap, subst, arith}
 use Rattle.std.specs.List.{All}
 use Rattle.std.proofs.lemmas.List.Elements.{All-nil, All-cons}
 use Rattle.nr_base.specs.Grammar.{Times, Each}
 use Rattle.nr_prog.specs.declared.pool.PoolEntry.{PoolEntry}
-use Rattle.nr_prog.specs.declared.pool.PoolEntry.TheVariants.{Utf8, Unused}
+use Rattle.nr_prog.specs.declared.pool.PoolEntry.TheVariants.{Utf8}
 use Rattle.nr_prog.specs.declared.member.Code.{Code}
 use Rattle.nr_prog.specs.declared.member.Method.{Method}
 use Rattle.nr_prog.specs.declared.parts.ClassParts.{ClassParts}

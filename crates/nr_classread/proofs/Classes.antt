@@ -1,5 +1,5 @@
 -- The class that is read is that of the file, and each class of a file is read.
-use Rattle.std.proofs.Common.{◌≡◌, ℕ, List, Option, Some, None, Result, Ok, Err, refl, sym, ap, subst, ◌∙◌}
+use Rattle.std.proofs.Common.{◌≡◌, ℕ, List, Option, Some, None, Result, Ok, Err, refl, ap, subst, ◌∙◌}
 use Rattle.std.specs.Prelude.{IfOk}
 use Rattle.nr_base.specs.Reader.{map_fault}
 use Rattle.nr_base.specs.Clauses.{GivesWhole}
@@ -7,13 +7,13 @@ use Rattle.nr_base.specs.Grammar.{IsBytes}
 use Rattle.nr_base.proofs.Laws.{map_fault_ok, whole_found, whole_only}
 use Rattle.nr_prog.specs.declared.fault.FormFault.{FormFault}
 use Rattle.nr_prog.specs.declared.parts.ClassParts.{ClassParts}
-use Rattle.nr_prog.specs.Form.{IsFormed, IsWithinBounds, class_or, class_of as class_of_parts}
+use Rattle.nr_prog.specs.Form.{IsWithinBounds, class_or, class_of as class_of_parts}
 use Rattle.nr_prog.specs.Rules.{form_fault}
 use Rattle.nr_prog.proofs.FormLaw as laws
 use Rattle.nr_classread.specs.declared.fault.ClassFault.{ClassFault}
 use Rattle.nr_classread.specs.declared.fault.ClassFault.TheVariants as faults
 use Rattle.nr_classread.specs.Faults.{is_free, of_form}
-use Rattle.nr_classread.specs.ClassText.{class_file, ReadsAs}
+use Rattle.nr_classread.specs.ClassText.{ReadsAs}
 use Rattle.nr_classread.specs.ClassReading.{parts_of, formed, class_of}
 use Rattle.nr_classread.proofs.Files.{file_law}
 use Rattle.nr_classread.proofs.Bounds.{file_bounds}

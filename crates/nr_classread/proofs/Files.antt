@@ -11,7 +11,7 @@ use Rattle.nr_prog.specs.declared.pool.PoolEntry.{PoolEntry}
 use Rattle.nr_prog.specs.declared.member.Code.{Code}
 use Rattle.nr_classread.specs.declared.fault.ClassFault.TheVariants as faults
 use Rattle.nr_classread.specs.MemberText.{constant_value, field, handler, kept, stack_map_table, code_contents, code, method}
-use Rattle.nr_classread.specs.MemberReading.{index_at, constant_value_at, field_at, handler_at, kept_at, stack_map_table_at, code_contents_at, code_at, method_at}
+use Rattle.nr_classread.specs.MemberReading.{constant_value_at, field_at, handler_at, kept_at, stack_map_table_at, code_contents_at, code_at, method_at}
 use Rattle.nr_classread.specs.ClassText.{magic, version, parts, ignored, class_file}
 use Rattle.nr_classread.specs.ClassReading.{magic_at, version_at, parts_at, file_at}
 use Rattle.nr_classread.proofs.Pools.{two_law, four_law, bytes_law, list_law, pool_law}
@@ -51,13 +51,16 @@ method_law es = then_law two_law (λ flags. then_law two_law (λ name. then_law 
 
 -- ---- the file
 
+magic_fits : 0xCAFEBABE < 256 ^ 4
+magic_fits = omega arith
+
 magic_law : Reads magic_at magic
 unfolding magic_at
 magic_law = same_law (then_law four_law (λ m. pick_law (eqb m 0xCAFEBABE) (give_law tt) (none_law faults.BadMagic)))
     (λ x text t. picked (eqb t.value 0xCAFEBABE) _ _ x t.back t.second
-        (λ is g. t.whole ∙ ap (λ z. t.front ++ z) g.1 ∙ append-nil t.front ∙ t.first.1 ∙ ap (to_be_bytes w32) (eqb-true t.value 0xCAFEBABE is))
-        (λ no g. absurd g))
-    (λ x text e. let lt : 0xCAFEBABE < 256 ^ 4 = omega arith in record { value = 0xCAFEBABE; front = text; back = []; first = (lt, e); second = (refl, refl); whole = sym (append-nil text) })
+    (λ is g. t.whole ∙ ap (λ z. t.front ++ z) g.1 ∙ append-nil t.front ∙ t.first.1 ∙ ap (to_be_bytes w32) (eqb-true t.value 0xCAFEBABE is))
+    (λ no g. absurd g))
+    (λ x text e. record { value = 0xCAFEBABE; front = text; back = []; first = (magic_fits, e); second = (refl, refl); whole = sym (append-nil text) })
 
 both : (a b : Bool) → (a && b) ≡ true → (a ≡ true) × (b ≡ true)
 both true true e = (refl, refl)
@@ -68,16 +71,21 @@ version_law : Reads version_at version
 unfolding version_at
 version_law = same_law (then_law two_law (λ minor. then_law two_law (λ major. pick_law (eqb minor 0 && eqb major 50) (give_law tt) (none_law (faults.Version minor major)))))
     (λ x text t. let u = t.second in picked (eqb t.value 0 && eqb u.value 50) _ _ x u.back u.second
-        (λ are g. let e = both (eqb t.value 0) (eqb u.value 50) are in
-            record {
-              value = tt; front = t.front; back = t.back;
-              first = t.first.1 ∙ ap (to_be_bytes w16) (eqb-true t.value 0 e.0);
-              second = u.whole ∙ ap (λ z. u.front ++ z) g.1 ∙ append-nil u.front ∙ u.first.1 ∙ ap (to_be_bytes w16) (eqb-true u.value 50 e.1);
-              whole = t.whole;
-            })
-        (λ no g. absurd g))
+    (λ are g. let e = both (eqb t.value 0) (eqb u.value 50) are in
+    record {
+      value = tt;
+      front = t.front;
+      back = t.back;
+      first = t.first.1 ∙ ap (to_be_bytes w16) (eqb-true t.value 0 e.0);
+      second = u.whole ∙ ap (λ z. u.front ++ z) g.1 ∙ append-nil u.front ∙ u.first.1 ∙ ap (to_be_bytes w16) (eqb-true u.value 50 e.1);
+      whole = t.whole;
+    })
+    (λ no g. absurd g))
     (λ x text t. record {
-      value = 0; front = t.front; back = t.back; first = (omega arith, t.first);
+      value = 0;
+      front = t.front;
+      back = t.back;
+      first = (omega arith, t.first);
       second = record { value = 50; front = t.back; back = []; first = (omega arith, t.second); second = (refl, refl); whole = sym (append-nil t.back) };
       whole = t.whole;
     })

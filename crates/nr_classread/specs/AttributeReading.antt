@@ -1,5 +1,5 @@
 -- Reading attributes, with the first fault: the project's own rule.
-use Rattle.std.specs.Prelude.{ℕ, List, Option, Some, None, is_some}
+use Rattle.std.specs.Prelude.{ℕ, List, Option, Some, is_some}
 use Rattle.nr_base.specs.Reader.{◌>>=◌, pure, refuse, choose, from}
 use Rattle.nr_prog.specs.declared.pool.PoolEntry.{PoolEntry}
 use Rattle.nr_classread.specs.declared.fault.ClassFault.TheVariants as faults

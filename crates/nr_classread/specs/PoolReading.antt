@@ -1,5 +1,5 @@
 -- Reading the constant pool, with the first fault: the project's own rule.
-use Rattle.std.specs.Prelude.{ℕ, ◌-◌, List, [], ◌∷◌, ◌++◌, Bool, true, false, ◌==◌}
+use Rattle.std.specs.Prelude.{ℕ, ◌-◌, List, [], ◌∷◌, ◌++◌, Bool, false, ◌==◌}
 use Rattle.std.specs.Int.{w32, w64, cast_signed}
 use Rattle.nr_base.specs.Reader.{◌>>=◌, pure, refuse, choose, from, with_fault, times, onto}
 use Rattle.nr_base.specs.Bytes.{run_at}

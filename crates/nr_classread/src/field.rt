@@ -49,11 +49,7 @@ fn read_attribute(
 }
 
 #[tactic(auto, using(nr_base::proofs::Loops::goes_on, nr_base::proofs::Loops::is_done, crate::proofs::Exits::fails_in))]
-fn read_attributes(
-    pool: &[PoolEntry],
-    cur: &mut Cur,
-    count: u16,
-) -> Result<Option<u16>, ClassFault>
+fn read_attributes(pool: &[PoolEntry], cur: &mut Cur, count: u16) -> Result<Option<u16>, ClassFault>
     ensures { Gives is_free result cur.new (times (constant_value_at pool.now) count None cur.old) }
 {
     let mut seen = None;

@@ -13,5 +13,5 @@ mod pool;
 pub use class::read_class;
 pub use fault::ClassFault;
 
-
-
+#[cfg(test)]
+mod tests;
