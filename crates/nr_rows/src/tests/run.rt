@@ -1,4 +1,4 @@
-//! `run` on a class of the form that runs so far.
+//! `run` on one class file.
 use crate::tests::scene::{M_CLASS, Scene, run_over};
 use std::alloc::{AllocError, Global};
 use std::process::Abort;
@@ -32,47 +32,47 @@ call A d M M 5|2||nrmi: words
 --help|2||nrmi: words
 ";
 
-// An offset, the byte that is put there, and the place of the item that the byte stands in.
+// An offset, the byte that is put there, and the fault.
 const CHANGES: &str = "\
-3 0 0
-5 1 4
-7 51 6
-8 1 61
-9 0 8
-10 3 10
-12 255 11
-62 2 61
-64 1 63
-66 2 65
-68 1 67
-70 1 69
-72 0 71
-74 8 73
-76 6 75
-78 5 77
-80 2 79
-82 5 81
-86 17 91
-88 1 96
-90 0 89
-95 172 95
-96 0 96
-97 100 97
-97 172 97
-97 8 97
-98 96 98
-100 5 99
-102 1 101
-104 1 103
+3|0|BadMagic
+5|1|Version 1 50
+7|51|Version 0 51
+8|1|PoolTag 61 0
+9|0|Short 104
+10|3|PoolTag 15 0
+12|255|Short 11
+62|2|OutOfThinForm 1
+64|1|BadName 1
+66|2|OutOfThinForm 1
+66|0|PoolKind 0
+68|1|Short 105
+70|1|Short 85
+72|0|Short 81
+74|8|OutOfThinForm 0
+76|6|BadName 6
+78|5|BadDesc 5
+80|2|Short 105
+82|5|CodePresence 0
+86|17|AttrLength 81
+88|1|OutOfThinForm 0
+90|0|OutOfThinForm 0
+94|5|AttrLength 81
+95|172|OutOfThinForm 0
+96|0|OutOfThinForm 0
+97|100|OutOfThinForm 0
+98|96|OutOfThinForm 0
+100|5|Short 105
+102|1|Short 105
+104|1|Short 105
 ";
 
-// How many bytes of the class there are, and the place of the first item that doesn't fit.
+// How many bytes of the class there are, and the fault.
 const LENGTHS: &str = "\
-0 0
-9 8
-12 11
-98 98
-104 103
+0|Short 0
+9|Short 8
+12|Short 11
+98|Short 95
+104|Short 103
 ";
 
 // A number of a line.
@@ -125,9 +125,9 @@ fn words_and_budgets(rt: HostRuntime) -> Result<(), Fail> {
     Ok(())
 }
 
-// A class that isn't of the form, from the item at this place on.
-fn expect_place<R: AllocGlobal + Abort>(rt: &R, class: &[u8], place: usize) -> Result<(), Fail> {
-    let line = format!(in rt.alloc(); "nrmi: class M.class OutOfThinForm {place}\n")?;
+// A class file that is refused.
+fn expect_fault<R: AllocGlobal + Abort>(rt: &R, class: &[u8], fault: &str) -> Result<(), Fail> {
+    let line = format!(in rt.alloc(); "nrmi: class M.class {fault}\n")?;
     expect(
         rt,
         &["run", "d", "M", "4"],
@@ -138,22 +138,22 @@ fn expect_place<R: AllocGlobal + Abort>(rt: &R, class: &[u8], place: usize) -> R
 }
 
 fn expect_change<R: AllocGlobal + Abort>(rt: &R, row: &str) -> Result<(), Fail> {
-    let mut parts = row.split(' ');
+    let mut parts = row.split('|');
     let at = number(parts.next())?;
     let byte = number(parts.next())?;
-    let place = number(parts.next())?;
+    let fault = parts.next().ok_or("a fault")?;
     let mut class = M_CLASS;
     assert!(rt; at < class.len() && byte < 256);
     class[at] = byte as u8;
-    expect_place(rt, &class, place)
+    expect_fault(rt, &class, fault)
 }
 
 fn expect_length<R: AllocGlobal + Abort>(rt: &R, row: &str) -> Result<(), Fail> {
-    let mut parts = row.split(' ');
+    let mut parts = row.split('|');
     let len = number(parts.next())?;
-    let place = number(parts.next())?;
+    let fault = parts.next().ok_or("a fault")?;
     assert!(rt; len <= M_CLASS.len());
-    expect_place(rt, &M_CLASS[..len], place)
+    expect_fault(rt, &M_CLASS[..len], fault)
 }
 
 #[test]
@@ -172,9 +172,9 @@ fn long_files_and_words(rt: HostRuntime) -> Result<(), Fail> {
     let alloc = rt.alloc();
     let mut class = M_CLASS.to_vec(alloc)?;
     class.push(0)?;
-    expect_place(&rt, &class, 105)?;
+    expect_fault(&rt, &class, "Trailing 105")?;
     class.resize(1_048_576, 0)?;
-    expect_place(&rt, &class, 105)?;
+    expect_fault(&rt, &class, "Trailing 105")?;
     class.push(0)?;
     let too_long = (4, "", "nrmi: class M.class FileTooLong\n");
     expect(&rt, &["run", "d", "M", "4"], &class, Scene::SOUND, too_long)?;
@@ -233,12 +233,17 @@ fn folders(rt: HostRuntime) -> Result<(), Fail> {
     let class = M_CLASS.as_slice();
     expect_files(&rt, &[], 5, "nrmi: link NoClass M\n")?;
     expect_files(&rt, &[("M.classes", class)], 5, "nrmi: link NoClass M\n")?;
-    let nested = "nrmi: class b/N.class OutOfThinForm 0\n";
+    let nested = "nrmi: class b/N.class OutOfThinForm 1\n";
     expect_files(&rt, &[("b/N.class", class), ("M.class", class)], 4, nested)?;
-    let empty = "nrmi: class M.class OutOfThinForm 0\n";
+    let empty = "nrmi: class M.class Short 0\n";
     expect_files(&rt, &[("a.class", class), ("M.class", &[])], 4, empty)?;
-    let spelled = "nrmi: class \\xC3\\xA4\\x20\\.class OutOfThinForm 0\n";
-    expect_files(&rt, &[("ä \\.class", &[1])], 4, spelled)
+    let spelled = "nrmi: class \\xC3\\xA4\\x20\\.class Short 0\n";
+    expect_files(&rt, &[("ä \\.class", &[1])], 4, spelled)?;
+    let mut reserved = class[..12].to_vec(rt.alloc())?;
+    reserved.extend_from_slice(b"\x06java/X".as_slice())?;
+    reserved.extend_from_slice(&class[14..])?;
+    let line = "nrmi: link ReservedName java/X\n";
+    expect_files(&rt, &[("M.class", &reserved)], 5, line)
 }
 
 #[test]
