@@ -1,3 +1,4 @@
+pub mod FailPlan
 pub mod Causes
 pub mod Bytes
 pub mod Folder

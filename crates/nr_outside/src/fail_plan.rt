@@ -1,6 +1,5 @@
 // Which calls of an object in memory are to fail.
-ghost use Rattle.std.specs.Prelude.{◌≡◌, ◌==◌, ◌+◌, ◌-◌, ◌^◌, min};
-ghost use Rattle.std.specs.List.{list_any};
+ghost use Rattle.std.specs.Prelude.{◌≡◌};
 
 // The numbers, from 1, of the calls that are to fail, and how many calls there were.
 #[derive(Drop)]
@@ -10,6 +9,8 @@ pub struct FailPlan {
 }
 
 impl FailPlan {
+    ghost use Rattle.nr_outside.specs.FailPlan.{is_planned, IsCounted};
+
     pub fn new(fails: Vec<u64>) -> Self
         ensures fails { result.fails.items ≡ fails.items }
         ensures calls { result.calls ≡ 0 }
@@ -18,10 +19,10 @@ impl FailPlan {
     }
 
     // Counts a call, and says whether it is to fail.
+    #[tactic(auto, unfolding(crate::specs::FailPlan::is_planned))]
     pub fn is_next_to_fail(&mut self) -> bool
-        ensures fails { self.new.fails.items ≡ self.old.fails.items }
-        ensures calls { self.new.calls ≡ min (self.old.calls + 1) (2 ^ 64 - 1) }
-        ensures answer { result ≡ list_any (λ n. n == self.new.calls) self.old.fails.items }
+        ensures counted { IsCounted self.old self.new }
+        ensures answer { result ≡ is_planned self.old }
     {
         self.calls = self.calls.saturating_add(1);
         self.fails.contains(&self.calls)

@@ -43,6 +43,13 @@ impl MemFolder {
 }
 
 impl Folder for MemFolder {
+    ghost use Rattle.std.specs.Prelude.{◌≡◌, ◌≤◌, ◌⊎◌, map, None, IfOk, IsErrOf, IsTrue, IsPermutation, vec_len};
+    ghost use Rattle.std.specs.String.{string_bytes};
+    ghost use Rattle.nr_outside.specs.Causes.{HasCause, Rose};
+    ghost use Rattle.nr_outside.specs.FailPlan.{is_planned, IsCounted};
+    ghost use Rattle.nr_outside.specs.Folder.{class_paths, file_at, Reads};
+    ghost use Rattle.nr_outside.specs.MemFolder.{mem_folder_files};
+
     ghost Tells = { Unit {0} };
 
     ghost files = { λ f. map told_of f.files.items };
@@ -53,14 +60,37 @@ impl Folder for MemFolder {
 
     ghost each_once = { λ f _. f.each_once };
 
-    fn names(&mut self, alloc: Global, dir: &str) -> Result<Vec<String>, Fault> {
+    /// It is `Failed` exactly where the call is to fail.
+    fn names(&mut self, alloc: Global, dir: &str) -> Result<Vec<String>, Fault>
+        ensures files { mem_folder_files self.new ≡ mem_folder_files self.old }
+        ensures names { IfOk result (λ names. IsPermutation (class_paths dir.now (mem_folder_files self.old)) (map string_bytes names.items)) }
+        ensures cause { HasCause self.old.faults self.new.faults result }
+        ensures lacks { self.new.lacks ≡ self.old.lacks }
+        ensures planned { IsTrue (is_planned self.old.plan) → IsErrOf result Fault.Failed }
+        ensures failed { IsErrOf result Fault.Failed → IsTrue (is_planned self.old.plan) }
+        ensures counted { IsCounted self.old.plan self.new.plan }
+    {
         if self.plan.is_next_to_fail() {
             return Err(failed(&mut self.faults));
         }
         Ok(class_paths(alloc, &self.files, dir)?)
     }
 
-    fn read(&mut self, alloc: Global, dir: &str, path: &str, max: usize) -> Result<Vec<u8>, Fault> {
+    /// It is `Failed` just where the call is to fail or there is no such file.
+    fn read(&mut self, alloc: Global, dir: &str, path: &str, max: usize) -> Result<Vec<u8>, Fault>
+        ensures files { mem_folder_files self.new ≡ mem_folder_files self.old }
+        ensures bytes { Reads (file_at dir.now path.now (mem_folder_files self.old)) max result }
+        ensures bound { IfOk result (λ bytes. vec_len bytes ≤ max) }
+        ensures faults { self.old.faults ≤ self.new.faults }
+        ensures lacks { self.old.lacks ≤ self.new.lacks }
+        ensures cause { IsErrOf result Fault.Failed → Rose self.old.faults self.new.faults
+            ⊎ ((file_at dir.now path.now (mem_folder_files self.old) ≡ None) × Rose self.old.lacks self.new.lacks) }
+        ensures planned { IsTrue (is_planned self.old.plan) → IsErrOf result Fault.Failed }
+        ensures absent { file_at dir.now path.now (mem_folder_files self.old) ≡ None → IsErrOf result Fault.Failed }
+        ensures failed { IsErrOf result Fault.Failed → IsTrue (is_planned self.old.plan)
+            ⊎ (file_at dir.now path.now (mem_folder_files self.old) ≡ None) }
+        ensures counted { IsCounted self.old.plan self.new.plan }
+    {
         if self.plan.is_next_to_fail() {
             return Err(failed(&mut self.faults));
         }

@@ -39,13 +39,27 @@ impl MemSink {
 }
 
 impl Sink for MemSink {
+    ghost use Rattle.std.specs.Prelude.{◌≡◌, ◌++◌, OnOk, IsErrOf, IsTrue};
+    ghost use Rattle.nr_outside.specs.Bytes.{AddsPart};
+    ghost use Rattle.nr_outside.specs.Causes.{HasCause};
+    ghost use Rattle.nr_outside.specs.FailPlan.{is_planned, IsCounted};
+    ghost use Rattle.nr_outside.specs.MemSink.{mem_sink_bytes};
+
     ghost Tells = { Unit {0} };
 
     ghost bytes = { λ s. s.written.items };
 
     ghost faults = { λ s. s.faults };
 
-    fn write(&mut self, piece: &[u8]) -> Result<(), Fault> {
+    /// It is `Failed` exactly where the call is to fail.
+    fn write(&mut self, piece: &[u8]) -> Result<(), Fault>
+        ensures ok { OnOk result (mem_sink_bytes self.new ≡ mem_sink_bytes self.old ++ piece.now) }
+        ensures part { AddsPart (mem_sink_bytes self.old) (mem_sink_bytes self.new) piece.now }
+        ensures cause { HasCause self.old.faults self.new.faults result }
+        ensures planned { IsTrue (is_planned self.old.plan) → IsErrOf result Fault.Failed }
+        ensures failed { IsErrOf result Fault.Failed → IsTrue (is_planned self.old.plan) }
+        ensures counted { IsCounted self.old.plan self.new.plan }
+    {
         if self.plan.is_next_to_fail() {
             return Err(failed(&mut self.faults));
         }

@@ -1,79 +1,111 @@
 // The objects in memory: which calls fail, and that the others succeed.
-use crate::{Event, Fault, Folder, MemFolder, MemSink, MemWire, Sink, Wire, are_each_once};
-use std::alloc::Global;
+use crate::{Fault, Folder, MemFolder, MemSink, MemWire, Sink, Wire, are_each_once};
+use std::alloc::{AllocError, Global};
+use std::fmt::Debug;
 use std::test::Fail;
 
-fn file(
-    alloc: Global,
-    dir: &str,
-    path: &str,
-    bytes: &[u8],
-) -> Result<(String, String, Vec<u8>), Fail> {
-    Ok((
-        String::from_str(alloc, dir)?,
-        String::from_str(alloc, path)?,
-        bytes.to_vec(alloc)?,
-    ))
+// A folder and a path, and the text of the file there.
+const FILES: &str = "\
+d|M.class|abc
+e|M.class|x
+d|in/side/N.class|
+d|M.java|y
+";
+
+// A call on a folder of these files, whose calls 2 and 5 fail, and its answer.
+const FOLDER_CALLS: &str = "\
+names d|Ok([\"M.class\", \"in/side/N.class\"])
+names d|Err(Failed)
+names f|Ok([])
+read d M.class 3|Ok([97, 98, 99])
+read d M.class 2|Err(Failed)
+read d M.class 2|Ok([97, 98])
+read d M.class 0|Ok([])
+read d in/side/N.class 1|Ok([])
+read d N.class 9|Err(Failed)
+read e M.java 9|Err(Failed)
+read e M.class 9|Ok([120])
+";
+
+// A text that is written to a sink, whose calls 2 and 5 fail, and the answer.
+const WRITES: &str = "\
+ab|Ok(())
+c|Err(Failed)
+|Ok(())
+d|Ok(())
+|Err(Failed)
+";
+
+// A call on a wire, whose calls 1, 4, 7 and 14 fail, and its answer. Its two connections give the texts abc, d and none.
+const WIRE_CALLS: &str = "\
+listen h:1|Err(Failed)
+listen h:2|Ok(())
+open h:3|Ok(())
+send xy|Err(Failed)
+send xy|Ok(())
+receive|Ok(2) [97, 98]
+receive|Err(Failed) [0, 0]
+receive|Ok(1) [99, 0]
+receive|Ok(1) [100, 0]
+receive|Ok(0) [0, 0]
+send|Ok(())
+close|1
+accept|Ok(())
+receive|Ok(0) [0, 0]
+send z|Err(Failed)
+close|2
+close|2
+accept|Err(Failed)
+open h:4|Err(Failed)
+";
+
+fn debug<T: Debug>(alloc: Global, value: &T) -> Result<String, AllocError> {
+    format!(in alloc; "{value:?}")
 }
 
-// Four files in two folders.
-fn four_files(alloc: Global) -> Result<Vec<(String, String, Vec<u8>)>, Fail> {
-    Ok(vec![in alloc;
-        file(alloc, "d", "M.class", &[1, 2, 3])?,
-        file(alloc, "e", "M.class", &[9])?,
-        file(alloc, "d", "in/side/N.class", &[])?,
-        file(alloc, "d", "M.java", &[7])?,
-    ]?)
+fn files(alloc: Global) -> Result<Vec<(String, String, Vec<u8>)>, Fail> {
+    let mut files = Vec::new(alloc);
+    for row in FILES.lines() {
+        let mut parts = row.split('|');
+        let dir = parts.next().ok_or("a folder")?;
+        let path = parts.next().ok_or("a path")?;
+        let text = parts.next().ok_or("a text")?;
+        files.push((
+            String::from_str(alloc, dir)?,
+            String::from_str(alloc, path)?,
+            text.as_bytes().to_vec(alloc)?,
+        ))?;
+    }
+    Ok(files)
 }
 
-#[test]
-fn names_in_memory(rt: HostRuntime) -> Result<(), Fail> {
-    let alloc = rt.alloc();
-    let files = four_files(alloc)?;
-    assert!(rt; are_each_once(&files));
-    let mut folder = MemFolder::new(files, vec![in alloc; 3]?);
-    let names = folder.names(alloc, "d")?;
-    assert_eq!(rt; names.len(), 2);
-    assert_eq!(rt; names[0].as_str(), "M.class");
-    assert_eq!(rt; names[1].as_str(), "in/side/N.class");
-    assert_eq!(rt; folder.names(alloc, "f")?.len(), 0);
-    assert_eq!(rt; folder.names(alloc, "d").err(), Some(Fault::Failed));
-    assert_eq!(rt; folder.names(alloc, "e")?.len(), 1);
-    let mut twice = four_files(alloc)?;
-    twice.push(file(alloc, "d", "M.java", &[8])?)?;
-    assert!(rt; !are_each_once(&twice));
-    Ok(())
-}
-
-#[test]
-fn reads_in_memory(rt: HostRuntime) -> Result<(), Fail> {
-    let alloc = rt.alloc();
-    let files = four_files(alloc)?;
-    assert!(rt; are_each_once(&files));
-    let mut folder = MemFolder::new(files, vec![in alloc; 2, 9]?);
-    for (dir, path, max, want) in [
-        ("d", "M.class", 3, Some([1u8, 2, 3].as_slice())),
-        ("d", "M.class", 2, None),
-        ("d", "M.class", 2, Some([1, 2].as_slice())),
-        ("d", "M.class", 0, Some([].as_slice())),
-        ("d", "M.class", usize::MAX, Some([1, 2, 3].as_slice())),
-        ("d", "M.java", 9, Some([7].as_slice())),
-        ("e", "M.class", 1, Some([9].as_slice())),
-        ("d", "in/side/N.class", 1, Some([].as_slice())),
-        ("e", "M.class", 1, None),
-        ("d", "N.class", 9, None),
-        ("e", "M.java", 9, None),
-        ("", "d/M.class", 9, None),
-    ] {
-        match folder.read(alloc, dir, path, max) {
-            Ok(bytes) => assert_eq!(rt; Some(bytes.as_slice()), want, "{dir}/{path}, {max}"),
-            Err(fault) => assert_eq!(rt;
-                (fault, want),
-                (Fault::Failed, None),
-                "{dir}/{path}, {max}"
-            ),
+fn call_folder(alloc: Global, folder: &mut MemFolder, call: &str) -> Result<String, Fail> {
+    let mut words = call.split(' ');
+    let verb = words.next().ok_or("a call")?;
+    let dir = words.next().ok_or("a folder")?;
+    match words.next() {
+        None => Ok(debug(alloc, &folder.names(alloc, dir))?),
+        Some(path) => {
+            let max = words.next().ok_or(verb)?.parse::<usize>()?;
+            Ok(debug(alloc, &folder.read(alloc, dir, path, max))?)
         }
     }
+}
+
+#[test]
+fn a_folder_in_memory(rt: HostRuntime) -> Result<(), Fail> {
+    let alloc = rt.alloc();
+    let listed = files(alloc)?;
+    assert!(rt; are_each_once(&listed));
+    let mut folder = MemFolder::new(listed, vec![in alloc; 2, 5]?);
+    for row in FOLDER_CALLS.lines() {
+        let (call, want) = row.split_once('|').ok_or("a row")?;
+        let answer = call_folder(alloc, &mut folder, call)?;
+        assert_eq!(rt; answer.as_str(), want, "{call}");
+    }
+    let mut twice = files(alloc)?;
+    twice.extend(files(alloc)?)?;
+    assert!(rt; !are_each_once(&twice));
     Ok(())
 }
 
@@ -81,92 +113,67 @@ fn reads_in_memory(rt: HostRuntime) -> Result<(), Fail> {
 fn a_sink_in_memory(rt: HostRuntime) -> Result<(), Fail> {
     let alloc = rt.alloc();
     let mut sink = MemSink::new(alloc, vec![in alloc; 2, 5]?);
-    let mut answers = Vec::new(alloc);
-    for piece in [
-        [5u8, 6].as_slice(),
-        [7].as_slice(),
-        [].as_slice(),
-        [8].as_slice(),
-        [].as_slice(),
-    ] {
-        answers.push(sink.write(piece).is_ok())?;
+    for row in WRITES.lines() {
+        let (piece, want) = row.split_once('|').ok_or("a row")?;
+        let answer = debug(alloc, &sink.write(piece.as_bytes()))?;
+        assert_eq!(rt; answer.as_str(), want, "{piece}");
     }
+    assert_eq!(rt; sink.bytes(), b"abd".as_slice());
+    Ok(())
+}
+
+fn receive(alloc: Global, wire: &mut MemWire) -> Result<String, Fail> {
+    let mut into = [0u8; 2];
+    if !wire.is_open() {
+        return Err(Fail::from("closed"));
+    }
+    let answer = wire.receive(&mut into);
+    Ok(format!(in alloc; "{answer:?} {into:?}")?)
+}
+
+fn call_wire(alloc: Global, wire: &mut MemWire, call: &str) -> Result<String, Fail> {
+    let (verb, rest) = call.split_once(' ').unwrap_or((call, ""));
+    let answer: Result<(), Fault> = match (verb, wire.is_open()) {
+        ("listen", _) => wire.listen(rest),
+        ("accept", false) => wire.accept(),
+        ("open", false) => wire.open(rest),
+        ("send", true) => wire.send(rest.as_bytes()),
+        ("receive", _) => return receive(alloc, wire),
+        ("close", _) => {
+            wire.close();
+            return Ok(debug(alloc, &wire.connection_count())?);
+        }
+        _ => return Err(Fail::from("no call")),
+    };
+    Ok(debug(alloc, &answer)?)
+}
+
+fn script(alloc: Global, pieces: &str) -> Result<Vec<Vec<u8>>, AllocError> {
+    let mut script = Vec::new(alloc);
+    for piece in pieces.split(' ') {
+        script.push(piece.as_bytes().to_vec(alloc)?)?;
+    }
+    Ok(script)
+}
+
+#[test]
+fn a_wire_in_memory(rt: HostRuntime) -> Result<(), Fail> {
+    let alloc = rt.alloc();
+    let scripts = vec![in alloc; script(alloc, " abc   d")?, script(alloc, "")?]?;
+    let mut wire = MemWire::new(alloc, scripts, vec![in alloc; 1, 4, 7, 14]?);
+    for row in WIRE_CALLS.lines() {
+        let (call, want) = row.split_once('|').ok_or("a row")?;
+        let answer = call_wire(alloc, &mut wire, call)?;
+        assert_eq!(rt; answer.as_str(), want, "{call}");
+    }
+    let told = format!(in alloc; "{:?} {:?}", wire.addresses(), wire.events())?;
     assert_eq!(rt;
-        answers.as_slice(),
-        [true, false, true, true, false].as_slice()
+        told.as_str(),
+        "[\"h:1\", \"h:2\", \"h:3\", \"h:4\"] [Opened, SendFailed(0), Sent(2), Received(2), ReceiveFailed, Received(1), \
+         Received(1), Received(0), Sent(0), Opened, Received(0), SendFailed(0)]"
     );
-    assert_eq!(rt; sink.bytes(), [5, 6, 8].as_slice());
-    Ok(())
-}
-
-// The calls 2 and 5 fail.
-#[test]
-fn a_connection_in_memory(rt: HostRuntime) -> Result<(), Fail> {
-    let alloc = rt.alloc();
-    let (none, three, one) = (
-        Vec::new(alloc),
-        [1u8, 2, 3].to_vec(alloc)?,
-        [4].to_vec(alloc)?,
-    );
-    let script = vec![in alloc; none, three, Vec::new(alloc), Vec::new(alloc), one]?;
-    let mut wire = MemWire::new(alloc, vec![in alloc; script]?, vec![in alloc; 2, 5]?);
-    let mut into = [0u8; 2];
-    assert_eq!(rt; wire.open("h:1"), Ok(()));
-    assert_eq!(rt; wire.send(&[7, 8]), Err(Fault::Failed));
-    assert_eq!(rt; wire.send(&[7, 8]), Ok(()));
-    assert_eq!(rt; wire.receive(&mut into), Ok(2));
-    assert_eq!(rt; into, [1, 2]);
-    assert_eq!(rt; wire.receive(&mut into), Err(Fault::Failed));
-    assert_eq!(rt; wire.receive(&mut into), Ok(1));
-    assert_eq!(rt; into, [3, 2]);
-    assert_eq!(rt; wire.receive(&mut into), Ok(1));
-    assert_eq!(rt; into, [4, 2]);
-    assert_eq!(rt; wire.receive(&mut into), Ok(0));
-    assert_eq!(rt; wire.send(&[]), Ok(()));
-    let events = [
-        Event::Opened,
-        Event::SendFailed(0),
-        Event::Sent(2),
-        Event::Received(2),
-        Event::ReceiveFailed,
-        Event::Received(1),
-        Event::Received(1),
-        Event::Received(0),
-        Event::Sent(0),
-    ];
-    assert_eq!(rt; wire.events(), events.as_slice());
-    Ok(())
-}
-
-// The calls 1 and 5 fail, and the calls 9 and 10 find no script.
-#[test]
-fn two_connections_in_memory(rt: HostRuntime) -> Result<(), Fail> {
-    let alloc = rt.alloc();
-    let scripts = vec![in alloc; vec![in alloc; [1u8].to_vec(alloc)?]?, Vec::new(alloc)]?;
-    let mut wire = MemWire::new(alloc, scripts, vec![in alloc; 1, 5]?);
-    let mut into = [0u8; 2];
-    assert_eq!(rt; wire.listen("h:1"), Err(Fault::Failed));
-    assert_eq!(rt; wire.listen("h:2"), Ok(()));
-    assert_eq!(rt; wire.open("h:3"), Ok(()));
-    assert_eq!(rt; wire.send(&[7, 8]), Ok(()));
-    wire.close();
-    assert_eq!(rt; wire.accept(), Err(Fault::Failed));
-    assert_eq!(rt; (wire.is_open(), wire.connection_count()), (false, 1));
-    assert_eq!(rt; wire.accept(), Ok(()));
-    assert_eq!(rt; wire.receive(&mut into), Ok(0));
-    assert_eq!(rt; wire.send(&[6]), Ok(()));
-    assert_eq!(rt; (wire.is_open(), wire.connection_count()), (true, 2));
-    assert_eq!(rt; wire.sent(0), [7, 8].as_slice());
-    assert_eq!(rt; wire.sent(1), [6].as_slice());
-    wire.close();
-    wire.close();
-    assert_eq!(rt; wire.accept(), Err(Fault::Failed));
-    assert_eq!(rt; wire.open("h:4"), Err(Fault::Failed));
-    assert_eq!(rt; wire.connection_count(), 2);
-    assert_eq!(rt; wire.sent(1), [6].as_slice());
-    assert_eq!(rt; wire.addresses().len(), 4);
-    for (address, want) in wire.addresses().iter().zip(["h:1", "h:2", "h:3", "h:4"]) {
-        assert_eq!(rt; address.as_str(), want);
-    }
+    assert!(rt; wire.connection_count() == 2);
+    assert_eq!(rt; wire.sent(0), b"xy".as_slice());
+    assert_eq!(rt; wire.sent(1), b"".as_slice());
     Ok(())
 }

@@ -117,6 +117,7 @@ impl MemWire {
         ensures events { OpenIsTold self.old.events.items self.new.events.items result }
         ensures past { self.new.past.items ≡ self.old.past.items }
         ensures addresses { self.new.addresses ≡ self.old.addresses }
+        ensures plan { self.new.plan ≡ self.old.plan }
         ensures cause { HasCause self.old.open_faults self.new.open_faults result }
         ensures stream_faults { self.new.stream_faults ≡ self.old.stream_faults }
         ensures ends { self.new.ends ≡ self.old.ends }
@@ -134,6 +135,14 @@ impl MemWire {
 }
 
 impl Wire for MemWire {
+    ghost use Rattle.std.specs.Prelude.{◌≡◌, ◌≢◌, ◌<◌, ◌≤◌, ◌++◌, ◌⊎◌, [], true, false, is_ok, length, OnOk, IfOk, IsErr, IsErrOf, IsTrue};
+    ghost use Rattle.nr_outside.specs.Bytes.{AddsPart};
+    ghost use Rattle.nr_outside.specs.Causes.{HasCause, Rose};
+    ghost use Rattle.nr_outside.specs.FailPlan.{is_planned, IsCounted};
+    ghost use Rattle.nr_outside.specs.Link.{link_to_come};
+    ghost use Rattle.nr_outside.specs.Wire.{AddressesGrow, Gives, OpenIsTold, ReceiveIsTold, SendIsTold};
+    ghost use Rattle.nr_outside.specs.MemWire.{mem_wire_addresses, mem_wire_past, mem_wire_events, mem_wire_scripts};
+
     ghost Tells = { Unit {0} };
 
     ghost TellsOrder = { Unit {0} };
@@ -166,7 +175,20 @@ impl Wire for MemWire {
         self.opened
     }
 
-    fn listen(&mut self, addr: &str) -> Result<(), Fault> {
+    /// It is `Failed` just where the call is to fail.
+    fn listen(&mut self, addr: &str) -> Result<(), Fault>
+        ensures opened { self.new.opened ≡ self.old.opened }
+        ensures addresses { AddressesGrow (mem_wire_addresses self.old) (mem_wire_addresses self.new) addr.now result }
+        ensures past { mem_wire_past self.new ≡ mem_wire_past self.old }
+        ensures live { self.new.live ≡ self.old.live }
+        ensures events { mem_wire_events self.new ≡ mem_wire_events self.old }
+        ensures cause { HasCause self.old.open_faults self.new.open_faults result }
+        ensures stream_faults { self.new.stream_faults ≡ self.old.stream_faults }
+        ensures ends { self.new.ends ≡ self.old.ends }
+        ensures planned { IsTrue (is_planned self.old.plan) → IsErr result }
+        ensures failed { IsErrOf result Fault.Failed → IsTrue (is_planned self.old.plan) }
+        ensures counted { IsCounted self.old.plan self.new.plan }
+    {
         let fails = self.plan.is_next_to_fail();
         self.addresses.push(String::from_str(self.alloc, addr)?)?;
         if fails {
@@ -175,7 +197,23 @@ impl Wire for MemWire {
         Ok(())
     }
 
-    fn accept(&mut self) -> Result<(), Fault> {
+    /// It is `Failed` just where the call is to fail or no script is left.
+    fn accept(&mut self) -> Result<(), Fault>
+        requires { self.old.opened ≡ false }
+        ensures opened { self.new.opened ≡ is_ok result }
+        ensures addresses { mem_wire_addresses self.new ≡ mem_wire_addresses self.old }
+        ensures past { mem_wire_past self.new ≡ mem_wire_past self.old }
+        ensures sent { OnOk result (self.new.live.sent.items ≡ []) }
+        ensures given { OnOk result (self.new.live.given.items ≡ []) }
+        ensures events { OpenIsTold (mem_wire_events self.old) (mem_wire_events self.new) result }
+        ensures cause { HasCause self.old.open_faults self.new.open_faults result }
+        ensures stream_faults { self.new.stream_faults ≡ self.old.stream_faults }
+        ensures ends { self.new.ends ≡ self.old.ends }
+        ensures planned { IsTrue (is_planned self.old.plan) → IsErr result }
+        ensures failed { IsErrOf result Fault.Failed → IsTrue (is_planned self.old.plan)
+            ⊎ (mem_wire_scripts self.old ≡ []) }
+        ensures counted { IsCounted self.old.plan self.new.plan }
+    {
         if self.plan.is_next_to_fail() {
             return Err(failed(&mut self.open_faults));
         }
@@ -184,7 +222,23 @@ impl Wire for MemWire {
         self.connect()
     }
 
-    fn open(&mut self, addr: &str) -> Result<(), Fault> {
+    /// It is `Failed` just where the call is to fail or no script is left.
+    fn open(&mut self, addr: &str) -> Result<(), Fault>
+        requires { self.old.opened ≡ false }
+        ensures opened { self.new.opened ≡ is_ok result }
+        ensures addresses { AddressesGrow (mem_wire_addresses self.old) (mem_wire_addresses self.new) addr.now result }
+        ensures past { mem_wire_past self.new ≡ mem_wire_past self.old }
+        ensures sent { OnOk result (self.new.live.sent.items ≡ []) }
+        ensures given { OnOk result (self.new.live.given.items ≡ []) }
+        ensures events { OpenIsTold (mem_wire_events self.old) (mem_wire_events self.new) result }
+        ensures cause { HasCause self.old.open_faults self.new.open_faults result }
+        ensures stream_faults { self.new.stream_faults ≡ self.old.stream_faults }
+        ensures ends { self.new.ends ≡ self.old.ends }
+        ensures planned { IsTrue (is_planned self.old.plan) → IsErr result }
+        ensures failed { IsErrOf result Fault.Failed → IsTrue (is_planned self.old.plan)
+            ⊎ (mem_wire_scripts self.old ≡ []) }
+        ensures counted { IsCounted self.old.plan self.new.plan }
+    {
         let fails = self.plan.is_next_to_fail();
         let addr = String::from_str(self.alloc, addr)?;
         self.past.reserve(1)?;
@@ -196,7 +250,24 @@ impl Wire for MemWire {
         self.connect()
     }
 
-    fn send(&mut self, piece: &[u8]) -> Result<(), Fault> {
+    /// It is `Failed` just where the call is to fail.
+    fn send(&mut self, piece: &[u8]) -> Result<(), Fault>
+        requires { self.old.opened ≡ true }
+        ensures opened { self.new.opened ≡ true }
+        ensures sent { OnOk result (self.new.live.sent.items ≡ self.old.live.sent.items ++ piece.now) }
+        ensures part { AddsPart self.old.live.sent.items self.new.live.sent.items piece.now }
+        ensures addresses { mem_wire_addresses self.new ≡ mem_wire_addresses self.old }
+        ensures past { mem_wire_past self.new ≡ mem_wire_past self.old }
+        ensures given { self.new.live.given.items ≡ self.old.live.given.items }
+        ensures events { SendIsTold (mem_wire_events self.old) (mem_wire_events self.new) self.old.live.sent.items
+            self.new.live.sent.items piece.now result }
+        ensures cause { HasCause self.old.stream_faults self.new.stream_faults result }
+        ensures open_faults { self.new.open_faults ≡ self.old.open_faults }
+        ensures ends { self.new.ends ≡ self.old.ends }
+        ensures planned { IsTrue (is_planned self.old.plan) → IsErr result }
+        ensures failed { IsErrOf result Fault.Failed → IsTrue (is_planned self.old.plan) }
+        ensures counted { IsCounted self.old.plan self.new.plan }
+    {
         let fails = self.plan.is_next_to_fail();
         self.events.reserve(1)?;
         if fails {
@@ -208,7 +279,27 @@ impl Wire for MemWire {
         Ok(())
     }
 
-    fn receive(&mut self, into: &mut [u8]) -> Result<usize, Fault> {
+    /// It is `Failed` just where the call is to fail.
+    fn receive(&mut self, into: &mut [u8]) -> Result<usize, Fault>
+        requires open { self.old.opened ≡ true }
+        requires room { 0 < length into.old }
+        ensures opened { self.new.opened ≡ true }
+        ensures bound { IfOk result (λ n. n ≤ length into.new) }
+        ensures gives { Gives self.old.live.given.items (link_to_come self.old.live) self.new.live.given.items
+            (link_to_come self.new.live) result into.new }
+        ensures addresses { mem_wire_addresses self.new ≡ mem_wire_addresses self.old }
+        ensures past { mem_wire_past self.new ≡ mem_wire_past self.old }
+        ensures sent { self.new.live.sent.items ≡ self.old.live.sent.items }
+        ensures events { ReceiveIsTold (mem_wire_events self.old) (mem_wire_events self.new) result }
+        ensures cause { HasCause self.old.stream_faults self.new.stream_faults result }
+        ensures open_faults { self.new.open_faults ≡ self.old.open_faults }
+        ensures some { link_to_come self.old.live ≢ [] → IfOk result (λ n. 0 < n) }
+        ensures end { IfOk result (λ n. n ≡ 0 → Rose self.old.ends self.new.ends) }
+        ensures ends { self.old.ends ≤ self.new.ends }
+        ensures planned { IsTrue (is_planned self.old.plan) → IsErr result }
+        ensures failed { IsErrOf result Fault.Failed → IsTrue (is_planned self.old.plan) }
+        ensures counted { IsCounted self.old.plan self.new.plan }
+    {
         let fails = self.plan.is_next_to_fail();
         self.events.reserve(1)?;
         if fails {
