@@ -67,12 +67,13 @@ broken_front side (a ∷ b ∷ c ∷ d ∷ []) r n len = absurd (cc)
 broken_front side (a ∷ b ∷ c ∷ d ∷ k ∷ rest) r n len = refl
 
 -- the frame in front of bytes that split
-pub record IsFirst (side : Side) (xs : List ℕ) (n : ℕ) : Type 0 where
+pub record IsFirst (side : Side) (xs : List ℕ) (n : ℕ) (left : List ℕ) : Type 0 where
   pub good : broken_at side xs ≡ None
   pub rest : Splits side (drop n xs)
+  pub left_is : rest.rest ≡ left
 
 first_in : (side : Side) (texts : List (List ℕ)) (rest xs : List ℕ) (n : ℕ) → xs ≡ texts_of texts ++ rest → All (IsFrame side) texts
-    → broken_at side rest ≡ None → frame_len rest ≡ None → frame_len xs ≡ Some n → IsFirst side xs n
+    → broken_at side rest ≡ None → frame_len rest ≡ None → frame_len xs ≡ Some n → IsFirst side xs n rest
 first_in side [] rest xs n whole each good partial len = absurd (cc)
 first_in side (t ∷ ts) rest xs n whole each good partial len =
     let frame = All-head (IsFrame side) t ts each in
@@ -89,9 +90,10 @@ first_in side (t ∷ ts) rest xs n whole each good partial len =
         good = good;
         partial = partial;
       };
+      left_is = refl;
     }
 
-pub first_of : (side : Side) (xs : List ℕ) (n : ℕ) → Splits side xs → frame_len xs ≡ Some n → IsFirst side xs n
+pub first_of : (side : Side) (xs : List ℕ) (n : ℕ) (splits : Splits side xs) → frame_len xs ≡ Some n → IsFirst side xs n splits.rest
 first_of side xs n splits len = first_in side splits.texts splits.rest xs n splits.whole splits.each splits.good splits.partial len
 
 read_range : (side : Side) (k : ℕ) → reads_code side k ≡ true → (1 ≤ k) × (k ≤ 4)

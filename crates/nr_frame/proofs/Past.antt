@@ -2,7 +2,6 @@
 use Rattle.std.proofs.Common.{◌≡◌, ◌++◌, List, ℕ, [], ◌∷◌, length, drop, Option, None, Some, refl, sym, ap, ◌∙◌, subst, append_assoc}
 use Rattle.std.specs.Prelude.{All}
 use Rattle.std.proofs.lemmas.List.{append-nil, take-append-drop}
-use Rattle.std.proofs.lemmas.Grind.{flat_map-append}
 use Rattle.std.proofs.lemmas.List.Elements.{All-append, All-nil, All-push}
 use Rattle.nr_frame.specs.declared.kind.Side.{Side}
 use Rattle.nr_frame.specs.declared.fault.FrameFault.{FrameFault}
@@ -12,7 +11,7 @@ use Rattle.nr_frame.specs.Reading.{Reading, start_of, IsFed, IsGiven}
 use Rattle.nr_frame.specs.Runs.{Event, fed_of, given_of, Leads, CutsAgree}
 use Rattle.nr_frame.specs.Runs.Event.{Fed, Given}
 use Rattle.nr_frame.proofs.Fronts.{frame_front, first_of}
-use Rattle.nr_frame.proofs.Wholes.{cut_splits}
+use Rattle.nr_frame.proofs.Wholes.{texts_append, cut_behind, cut_splits}
 use Rattle.nr_frame.proofs.Unique.{Stops, stops_partial, stops_broken, unique}
 
 -- a reader to which `fed` was fed, and which has given the frames `texts`
@@ -22,9 +21,6 @@ pub record Past (side : Side) (fed : List ℕ) (texts : List (List ℕ)) (r : Re
   pub splits : Splits side r.unread
   pub open_is : r.fault ≡ None → fed ≡ texts_of texts ++ r.unread
   pub cut : (f : FrameFault) → r.fault ≡ Some f → CutsOff side fed (texts_of texts ++ r.unread) f
-
-texts_append : (xs ys : List (List ℕ)) → texts_of (xs ++ ys) ≡ texts_of xs ++ texts_of ys
-texts_append xs ys = flat_map-append (λ (t : List ℕ). t) xs ys
 
 past_start : (side : Side) → Past side [] [] (start_of side)
 past_start side = record {
@@ -52,19 +48,6 @@ cut_more side fed piece front f cut = record {
   each = cut.each;
   broken = broken_more side cut.rest piece f cut.broken;
   kept = cut.kept;
-}
-
--- more frames before a broken header
-cut_behind : (side : Side) (texts : List (List ℕ)) (bytes front : List ℕ) (f : FrameFault) → All (IsFrame side) texts
-    → CutsOff side bytes front f → CutsOff side (texts_of texts ++ bytes) (texts_of texts ++ front) f
-cut_behind side texts bytes front f each cut = record {
-  texts = texts ++ cut.texts;
-  rest = cut.rest;
-  whole = ap (λ (xs : List ℕ). texts_of texts ++ xs) cut.whole ∙ sym (append_assoc (texts_of texts) (texts_of cut.texts) cut.rest)
-      ∙ ap (λ (xs : List ℕ). xs ++ cut.rest) (sym (texts_append texts cut.texts));
-  each = All-append (IsFrame side) texts cut.texts each cut.each;
-  broken = cut.broken;
-  kept = ap (λ (xs : List ℕ). texts_of texts ++ xs) cut.kept ∙ sym (texts_append texts cut.texts);
 }
 
 past_fed_by : (side : Side) (fed piece : List ℕ) (texts : List (List ℕ)) (r s : Reading) (before after : Option FrameFault)

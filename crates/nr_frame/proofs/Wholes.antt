@@ -1,5 +1,5 @@
--- One whole frame more.
-use Rattle.std.proofs.Common.{◌≡◌, ◌≤◌, ◌+◌, ◌-◌, ◌++◌, List, ℕ, [], ◌∷◌, length, take, drop, None, Some, refl, sym, ap, ◌∙◌, arith}
+-- Whole frames, one behind the other.
+use Rattle.std.proofs.Common.{◌≡◌, ◌≤◌, ◌+◌, ◌-◌, ◌++◌, List, ℕ, [], ◌∷◌, length, take, drop, None, Some, refl, sym, ap, ◌∙◌, arith, append_assoc}
 use Rattle.std.specs.Prelude.{All, IsTrue, nat_eq}
 use Rattle.std.proofs.lemmas.List.{length-drop, take-append-drop, drop-take, take-take, take_rest, drop_all, append-nil}
 use Rattle.std.proofs.lemmas.Grind.{common_steps, flat_map-append}
@@ -17,7 +17,27 @@ pub record AreFrames (side : Side) (bytes : List ℕ) : Type 0 where
   pub each : All (IsFrame side) texts
   pub whole : bytes ≡ texts_of texts
 
-take_add : (at n : ℕ) (bytes : List ℕ) → take (at + n) bytes ≡ take at bytes ++ take n (drop at bytes)
+-- ---- lists of frames
+
+pub texts_append : (xs ys : List (List ℕ)) → texts_of (xs ++ ys) ≡ texts_of xs ++ texts_of ys
+texts_append xs ys = flat_map-append (λ (t : List ℕ). t) xs ys
+
+-- more frames before a broken header
+pub cut_behind : (side : Side) (texts : List (List ℕ)) (bytes front : List ℕ) (f : FrameFault) → All (IsFrame side) texts
+    → CutsOff side bytes front f → CutsOff side (texts_of texts ++ bytes) (texts_of texts ++ front) f
+cut_behind side texts bytes front f each cut = record {
+  texts = texts ++ cut.texts;
+  rest = cut.rest;
+  whole = ap (λ (xs : List ℕ). texts_of texts ++ xs) cut.whole ∙ sym (append_assoc (texts_of texts) (texts_of cut.texts) cut.rest)
+      ∙ ap (λ (xs : List ℕ). xs ++ cut.rest) (sym (texts_append texts cut.texts));
+  each = All-append (IsFrame side) texts cut.texts each cut.each;
+  broken = cut.broken;
+  kept = ap (λ (xs : List ℕ). texts_of texts ++ xs) cut.kept ∙ sym (texts_append texts cut.texts);
+}
+
+-- ---- one more
+
+pub take_add : (at n : ℕ) (bytes : List ℕ) → take (at + n) bytes ≡ take at bytes ++ take n (drop at bytes)
 take_add at n bytes = sym (take-append-drop at (take (at + n) bytes)) ∙ rw (drop-take at n bytes) (grind (arith, common_steps, take-take))
 
 pub one_more : (side : Side) (bytes : List ℕ) (at n : ℕ) → AreFrames side (take at bytes)

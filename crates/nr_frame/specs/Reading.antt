@@ -1,5 +1,5 @@
 -- What a reader of frames stands for, and what a piece does to it.
-use Rattle.std.specs.Prelude.{◌≡◌, ◌≤◌, ℕ, List, [], ◌++◌, length, take, drop, Option, None, Some}
+use Rattle.std.specs.Prelude.{◌≡◌, ◌+◌, ◌≤◌, ℕ, List, [], ◌++◌, length, take, drop, Option, None, Some}
 use Rattle.nr_frame.specs.Headers.{frame_len}
 use Rattle.nr_frame.specs.Splits.{Splits, CutsOff}
 use Rattle.nr_frame.specs.declared.kind.Side.{Side}
@@ -15,10 +15,12 @@ pub record Reading : Type 0 where
 abbrev pub start_of : Side → Reading
 start_of side = record { side = side; unread = []; fault = None }
 
--- what a reader holds from `start` on has no header that breaks a rule
-pub record IsHeld (side : Side) (start : ℕ) (bytes : List ℕ) : Type 0 where
-  pub bound : start ≤ length bytes
+-- what a reader holds from `start` on has no header that breaks a rule, and behind the whole frames it has
+-- so many bytes
+pub record IsHeld (side : Side) (start rest : ℕ) (bytes : List ℕ) : Type 0 where
+  pub bound : start + rest ≤ length bytes
   pub splits : Splits side (drop start bytes)
+  pub rest_is : length splits.rest ≡ rest
 
 -- how a piece changes a reader: not at all where it keeps a fault, else it is appended, up to the first
 -- header that breaks a rule

@@ -1,5 +1,5 @@
 -- Bytes as frames, one behind the other.
-use Rattle.std.specs.Prelude.{◌≡◌, ℕ, List, ◌++◌, length, flat_map, All, None, Some}
+use Rattle.std.specs.Prelude.{◌≡◌, ℕ, List, ◌++◌, length, take, drop, flat_map, All, None, Some}
 use Rattle.nr_frame.specs.Headers.{broken_at, frame_len}
 use Rattle.nr_frame.specs.declared.kind.Side.{Side}
 use Rattle.nr_frame.specs.declared.fault.FrameFault.{FrameFault}
@@ -20,6 +20,14 @@ pub record Splits (side : Side) (bytes : List ℕ) : Type 0 where
   pub each : All (IsFrame side) texts
   pub good : broken_at side rest ≡ None
   pub partial : frame_len rest ≡ None
+
+-- the same, with the place where the whole frames end
+pub record SplitsAt (side : Side) (bytes : List ℕ) (at : ℕ) : Type 0 where
+  pub texts : List (List ℕ)
+  pub front : take at bytes ≡ texts_of texts
+  pub each : All (IsFrame side) texts
+  pub good : broken_at side (drop at bytes) ≡ None
+  pub partial : frame_len (drop at bytes) ≡ None
 
 -- the front of the bytes is whole frames, and the header behind it breaks a rule so
 pub record CutsOff (side : Side) (bytes front : List ℕ) (fault : FrameFault) : Type 0 where

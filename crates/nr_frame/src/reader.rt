@@ -21,6 +21,8 @@ pub struct FrameReader {
     // the bytes before `start` were given
     buffer: Vec<u8>,
     start: usize,
+    // how many bytes stand behind the last whole frame
+    partial: usize,
     fault: Option<FrameFault>,
 }
 
@@ -32,7 +34,7 @@ impl Model for FrameReader {
 
     ghost view = { λ r. record { side = r.side; unread = drop r.start r.buffer.items; fault = r.fault } };
 
-    ghost invariant = { λ r. IsHeld r.side r.start r.buffer.items };
+    ghost invariant = { λ r. IsHeld r.side r.start r.partial r.buffer.items };
 }
 
 /// Counts `len` more bytes of the buffer as given, and answers where the others start. It moves the others
@@ -62,6 +64,7 @@ impl FrameReader {
             side,
             buffer: Vec::new(alloc),
             start: 0,
+            partial: 0,
             fault: None,
         }
     }
@@ -73,8 +76,8 @@ impl FrameReader {
         self.start == self.buffer.len()
     }
 
-    /// Takes the next piece of the stream. It looks over all frames that are held, so take what frames
-    /// there are before the next piece.
+    /// Takes the next piece of the stream. It looks only at what stands behind the last whole frame, so all
+    /// pieces together take time linear in their bytes.
     ///
     /// # Errors
     /// `Fault` where a header breaks a rule: the frames before it stay and are given, the rest is
@@ -88,12 +91,17 @@ impl FrameReader {
         if let Some(fault) = self.fault {
             return Err(FeedError::Fault(fault));
         }
+        let end = self.buffer.len() - self.partial;
         self.buffer.extend_from_slice(piece)?;
-        let (end, fault) = whole_frames(self.side, &self.buffer[self.start..]);
+        let (len, fault) = whole_frames(self.side, &self.buffer[end..]);
         match fault {
-            None => Ok(()),
+            None => {
+                self.partial = self.buffer.len() - end - len;
+                Ok(())
+            }
             Some(fault) => {
-                self.buffer.truncate(self.start + end);
+                self.buffer.truncate(end + len);
+                self.partial = 0;
                 self.fault = Some(fault);
                 Err(FeedError::Fault(fault))
             }

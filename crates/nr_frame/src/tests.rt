@@ -42,45 +42,99 @@ fn headers(rt: HostRuntime) -> Result<(), Fail> {
     Ok(())
 }
 
-// A Hello with three bytes, an empty Go, and a Call with one byte.
-const THREE: [u8; 19] = *b"\x00\x00\x00\x03\x01abc\x00\x00\x00\x00\x03\x00\x00\x00\x01\x02\xFF";
+const KINDS: [FrameKind; 3] = [FrameKind::Hello, FrameKind::Call, FrameKind::Go];
 
-/// Feeds the pieces, takes what frames there are after each, and asserts that these are the three.
-fn gives_three(rt: &impl Abort, alloc: Global, pieces: &[&[u8]]) -> Result<(), AllocError> {
-    let mut given = Vec::new(alloc);
-    let mut reader = FrameReader::new(alloc, Side::Server);
-    for piece in pieces {
-        assert_eq!(rt; reader.feed(piece), Ok(()));
-        for _ in 0..4 {
-            if let Some(frame) = reader.next(alloc)? {
-                given.push(frame)?;
-            }
+/// The bytes of 300 frames, of all kinds in turn, with bodies of 0 to 6 bytes.
+fn stream_of_300(alloc: Global) -> Result<Vec<u8>, AllocError> {
+    let mut bytes = Vec::new(alloc);
+    for number in 0..300u16 {
+        let len = u8::try_from(number % 7).unwrap_or(0);
+        let kind = u8::try_from(number % 3).unwrap_or(0) % 3 + 1;
+        bytes.extend_from_slice(&[0, 0, 0, len, kind])?;
+        for _ in 0..len {
+            bytes.push(u8::try_from(number % 251).unwrap_or(0))?;
         }
     }
-    assert!(rt; reader.is_empty());
-    let want: [(FrameKind, &[u8]); 3] = [
-        (FrameKind::Hello, b"abc"),
-        (FrameKind::Go, b""),
-        (FrameKind::Call, b"\xFF"),
-    ];
-    assert_eq!(rt; given.len(), want.len());
-    for (frame, (kind, body)) in given.iter().zip(want.iter()) {
-        assert_eq!(rt; frame.kind, *kind);
-        assert_eq!(rt; frame.body.as_slice(), *body);
+    Ok(bytes)
+}
+
+/// Takes what frames there are, which are those from the number on. Answers the number of the next one.
+fn take_frames<R: AllocGlobal + Abort>(
+    rt: &R,
+    reader: &mut FrameReader,
+    first: usize,
+) -> Result<usize, Fail> {
+    for number in first..=300 {
+        let Some(frame) = reader.next(rt.alloc())? else {
+            return Ok(number);
+        };
+        assert_eq!(rt; frame.kind, KINDS[number % 3], "{number}");
+        assert_eq!(rt; frame.body.len(), number % 7, "{number}");
+        let byte = u8::try_from(number % 251).unwrap_or(0);
+        assert!(rt; frame.body.iter().all(|b| *b == byte), "{number}");
     }
+    Err("too many frames")?
+}
+
+/// Feeds the pieces and takes the frames, after each piece or at the end.
+fn gives_300<R: AllocGlobal + Abort>(rt: &R, pieces: &[&[u8]], is_each: bool) -> Result<(), Fail> {
+    let mut reader = FrameReader::new(rt.alloc(), Side::Server);
+    let mut taken = 0;
+    for piece in pieces {
+        assert_eq!(rt; reader.feed(piece), Ok(()));
+        if is_each {
+            taken = take_frames(rt, &mut reader, taken)?;
+        }
+    }
+    assert_eq!(rt; take_frames(rt, &mut reader, taken)?, 300);
+    assert!(rt; reader.is_empty());
     Ok(())
 }
 
 #[test]
 fn cut_anywhere(rt: HostRuntime) -> Result<(), Fail> {
+    let bytes = stream_of_300(rt.alloc())?;
+    for at in 0..=bytes.len() {
+        let (front, back) = bytes.split_at(at);
+        gives_300(&rt, &[front, back], true)?;
+        gives_300(&rt, &[front, back], false)?;
+    }
+    let mut single = Vec::new(rt.alloc());
+    for byte in bytes.chunks(1) {
+        single.push(byte)?;
+    }
+    gives_300(&rt, &single, true)?;
+    gives_300(&rt, &single, false)
+}
+
+/// Takes all frames, which are empty ones of the kind Go. Answers how many there were.
+fn count_empty<R: AllocGlobal + Abort>(rt: &R, reader: &mut FrameReader) -> Result<u32, Fail> {
+    for count in 0..u32::MAX {
+        let Some(frame) = reader.next(rt.alloc())? else {
+            return Ok(count);
+        };
+        assert_eq!(rt; frame.kind, FrameKind::Go);
+        assert!(rt; frame.body.is_empty());
+    }
+    Err("too many frames")?
+}
+
+// 4 MiB of frames of five bytes, fed in pieces of so many bytes before the first is taken. Time that isn't linear in
+// the bytes would not end here.
+#[test]
+fn many_small(rt: HostRuntime) -> Result<(), Fail> {
     let mut bytes = Vec::new(rt.alloc());
-    for at in 0..=THREE.len() {
-        gives_three(&rt, rt.alloc(), &[&THREE[..at], &THREE[at..]])?;
+    for _ in 0..838_861u32 {
+        bytes.extend_from_slice(b"\x00\x00\x00\x00\x03")?;
     }
-    for byte in THREE.chunks(1) {
-        bytes.push(byte)?;
+    for size in [4_194_305, 4096, 1] {
+        let mut reader = FrameReader::new(rt.alloc(), Side::Server);
+        for piece in bytes.chunks(size) {
+            assert_eq!(rt; reader.feed(piece), Ok(()));
+        }
+        assert_eq!(rt; count_empty(&rt, &mut reader)?, 838_861, "{size}");
+        assert!(rt; reader.is_empty());
     }
-    gives_three(&rt, rt.alloc(), &bytes)?;
     Ok(())
 }
 

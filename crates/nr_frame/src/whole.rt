@@ -1,7 +1,7 @@
 //! How far the whole frames reach.
 
 ghost use Rattle.std.specs.Prelude.{◌≤◌, MatchOption, length, take};
-ghost use Rattle.nr_frame.specs.Splits.{Splits, CutsOff};
+ghost use Rattle.nr_frame.specs.Splits.{SplitsAt, CutsOff};
 
 use crate::fault::FrameFault;
 use crate::header::{header_fault, whole_len};
@@ -10,7 +10,7 @@ use crate::kind::Side;
 /// Where the whole frames end, and how the header there breaks a rule.
 pub(crate) fn whole_frames(side: Side, bytes: &[u8]) -> (usize, Option<FrameFault>)
     ensures bound { result.0 ≤ length bytes.now }
-    ensures split { MatchOption result.1 (Splits side bytes.now) (λ fault. CutsOff side bytes.now (take result.0 bytes.now) fault) }
+    ensures split { MatchOption result.1 (SplitsAt side bytes.now result.0) (λ fault. CutsOff side bytes.now (take result.0 bytes.now) fault) }
 {
     let mut at = 0usize;
     'frames: loop {
