@@ -14,7 +14,7 @@ use Rattle.nr_prog.specs.Rules.{field_fault, method_fault, members_fault}
 use Rattle.nr_prog.specs.Members.{spells, is_spelled, is_among, is_in, is_in_profile, is_profile_method}
 use Rattle.nr_prog.proofs.Walks.{goes_on, fails_in, ends}
 use Rattle.nr_prog.specs.Seen.{is_pair}
-use Rattle.nr_prog.specs.Legal.{is_void_desc}
+use Rattle.nr_prog.specs.LegalTests.{is_void_desc}
 
 pub spells_at : (test : List ℕ → Bool) (pool : List PoolEntry) (index : ℕ) (text : List ℕ) → text_at pool index ≡ Some text → spells test pool index ≡ test text
 unfolding spells

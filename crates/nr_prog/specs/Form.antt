@@ -1,14 +1,15 @@
 -- Class files that keep the form: JVM Specification 4, in the project's own profile.
-use Rattle.std.specs.Prelude.{◌≡◌, ℕ, ◌<◌, ◌≤◌, ◌^◌, List, length, All, AllPairs, IsTrue, Option, Some, None, Result, Ok, Err}
+use Rattle.std.specs.Prelude.{◌≡◌, ℕ, ◌<◌, ◌≤◌, ◌^◌, List, length, All, AllPairs, IsTrue, not, Option, Some, None, IsSomeAnd, Result, Ok, Err, codes}
 use Rattle.nr_prog.specs.declared.pool.PoolEntry.{PoolEntry}
+use Rattle.nr_prog.specs.declared.pool.PoolEntry.TheVariants.{Class}
 use Rattle.nr_prog.specs.declared.member.Field.{Field}
 use Rattle.nr_prog.specs.declared.member.Method.{Method}
 use Rattle.nr_prog.specs.declared.member.Code.{Code}
 use Rattle.nr_prog.specs.declared.parts.ClassParts.{ClassParts}
 use Rattle.nr_prog.specs.declared.fault.FormFault.{FormFault}
 use Rattle.nr_prog.specs.Pool.{entry_at, is_entry_formed, text_at, text_len}
-use Rattle.nr_prog.specs.Legal.{is_field_text, is_method_text, is_field_desc, is_method_desc}
-use Rattle.nr_prog.specs.Members.{spells, is_class_named, is_constant_formed, is_profile_method, has_its_code}
+use Rattle.nr_prog.specs.Legal.{IsClassText, IsFieldText, IsMethodText, IsFieldDesc, IsMethodDesc, IsVoidDesc}
+use Rattle.nr_prog.specs.Members.{is_constant_formed, is_static, is_abstract, is_plain, has_its_code}
 use Rattle.nr_prog.specs.Rules.{form_fault}
 
 -- two members don't have the same name and the same descriptor (4.5, 4.6)
@@ -16,17 +17,36 @@ abbrev pub AreApart : List PoolEntry → ℕ → ℕ → ℕ → ℕ → Type 0
 AreApart pool name desc other_name other_desc =
     ¬ ((text_at pool name ≡ text_at pool other_name) × (text_at pool desc ≡ text_at pool other_desc))
 
+-- the index names a text of which P holds
+abbrev pub Spells : (List ℕ → Type 0) → List PoolEntry → ℕ → Type 0
+Spells P pool index = IsSomeAnd (text_at pool index) P
+
+abbrev pub IsClassOf : List PoolEntry → PoolEntry → Type 0
+IsClassOf pool (Class name) = Spells IsClassText pool name
+IsClassOf pool e = ⊥
+
+-- the index names a class with a legal name (4.4.1)
+abbrev pub NamesClass : List PoolEntry → ℕ → Type 0
+NamesClass pool index = IsSomeAnd (entry_at pool index) (IsClassOf pool)
+
 -- a field by itself (4.5)
 pub record IsFieldFormed (pool : List PoolEntry) (f : Field) : Type 0 where
-  pub name : IsTrue (spells is_field_text pool f.name)
-  pub desc : IsTrue (spells is_field_desc pool f.desc)
+  pub name : Spells IsFieldText pool f.name
+  pub desc : Spells IsFieldDesc pool f.desc
   pub constant : IsTrue (is_constant_formed pool f.desc f.constant)
+
+-- an instance initialiser is neither static nor abstract, and returns nothing (2.9)
+pub record IsInitialiser (pool : List PoolEntry) (m : Method) : Type 0 where
+  pub not_static : IsTrue (not (is_static m.flags))
+  pub not_abstract : IsTrue (not (is_abstract m.flags))
+  pub void : Spells IsVoidDesc pool m.desc
 
 -- a method by itself (4.6)
 pub record IsMethodFormed (pool : List PoolEntry) (m : Method) : Type 0 where
-  pub name : IsTrue (spells is_method_text pool m.name)
-  pub desc : IsTrue (spells is_method_desc pool m.desc)
-  pub profile : IsTrue (is_profile_method pool m)
+  pub name : Spells IsMethodText pool m.name
+  pub desc : Spells IsMethodDesc pool m.desc
+  pub plain : IsTrue (is_plain m)
+  pub initialiser : text_at pool m.name ≡ Some (codes "<init>") → IsInitialiser pool m
   pub code : IsTrue (has_its_code m)
 
 -- the parts of a class file keep the form
@@ -34,9 +54,9 @@ pub record IsFormed (c : ClassParts) : Type 0 where
   -- the constant pool (4.4)
   pub entries : (index : ℕ) (e : PoolEntry) → entry_at c.pool index ≡ Some e → IsTrue (is_entry_formed c.pool index e)
   -- this class, its superclass and its direct superinterfaces (4.1)
-  pub this : IsTrue (is_class_named c.pool c.this_class)
-  pub above : IsTrue (is_class_named c.pool c.super_class)
-  pub interfaces : All (λ index. IsTrue (is_class_named c.pool index)) c.interfaces
+  pub this : NamesClass c.pool c.this_class
+  pub above : NamesClass c.pool c.super_class
+  pub interfaces : All (NamesClass c.pool) c.interfaces
   -- fields, of which no two have the same name and descriptor (4.5)
   pub fields : All (IsFieldFormed c.pool) c.fields
   pub apart_fields : AllPairs (λ f g. AreApart c.pool f.name f.desc g.name g.desc) c.fields

@@ -1,36 +1,32 @@
 -- Texts that are legal names and descriptors: JVM Specification 4.2.1, 4.2.2, 4.3.2 and 4.3.3. Each is in modified
 -- UTF-8 (4.4.7). That U+0000 and the types float and double are left out is the project's own rule.
-use Rattle.std.specs.Prelude.{ℕ, List, Bool, false, ◌&&◌, is_ok, is_none, Result, Ok, Err}
-use Rattle.nr_base.specs.Names.{is_name}
-use Rattle.nr_base.specs.LegalNames.{class_from, is_unqualified, is_method_name}
-use Rattle.nr_base.specs.DescReading.{desc_of, method_of}
-use Rattle.nr_base.specs.declared.desc.fault.DescFault.{DescFault}
+use Rattle.std.specs.Prelude.{◌≡◌, List, ℕ, IsTrue, None}
+use Rattle.nr_base.specs.ModifiedUtf8.{IsModifiedUtf8}
+use Rattle.nr_base.specs.LegalNames.{IsClassName, is_unqualified, is_method_name}
+use Rattle.nr_base.specs.Descs.{desc, method_desc}
+use Rattle.nr_base.specs.declared.desc.types.Desc.{Desc}
 use Rattle.nr_base.specs.declared.desc.types.MethodDesc.{MethodDesc}
 
 -- a class: unqualified names with `/` between
-unfoldable pub is_class_text : List ℕ → Bool
-is_class_text bytes = is_name bytes && class_from false bytes
+abbrev pub IsClassText : List ℕ → Type 0
+IsClassText text = IsModifiedUtf8 text × IsClassName text
 
 -- a field: an unqualified name
-unfoldable pub is_field_text : List ℕ → Bool
-is_field_text bytes = is_name bytes && is_unqualified bytes
+abbrev pub IsFieldText : List ℕ → Type 0
+IsFieldText text = IsModifiedUtf8 text × IsTrue (is_unqualified text)
 
 -- a method: an unqualified name without `<` and `>`, or `<init>` or `<clinit>`
-unfoldable pub is_method_text : List ℕ → Bool
-is_method_text bytes = is_name bytes && is_method_name bytes
+abbrev pub IsMethodText : List ℕ → Type 0
+IsMethodText text = IsModifiedUtf8 text × IsTrue (is_method_name text)
 
 -- a field's descriptor
-unfoldable pub is_field_desc : List ℕ → Bool
-is_field_desc bytes = is_ok (desc_of bytes)
+abbrev pub IsFieldDesc : List ℕ → Type 0
+IsFieldDesc text = (d : Desc) × desc d text
 
 -- a method's descriptor
-unfoldable pub is_method_desc : List ℕ → Bool
-is_method_desc bytes = is_ok (method_of bytes)
-
-abbrev pub returns_nothing : Result MethodDesc DescFault → Bool
-returns_nothing (Ok desc) = is_none desc.result
-returns_nothing (Err fault) = false
+abbrev pub IsMethodDesc : List ℕ → Type 0
+IsMethodDesc text = (m : MethodDesc) × method_desc m text
 
 -- the descriptor of a method that returns nothing
-unfoldable pub is_void_desc : List ℕ → Bool
-is_void_desc bytes = returns_nothing (method_of bytes)
+abbrev pub IsVoidDesc : List ℕ → Type 0
+IsVoidDesc text = (m : MethodDesc) × method_desc m text × (m.result ≡ None)

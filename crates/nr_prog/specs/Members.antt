@@ -10,7 +10,7 @@ use Rattle.nr_prog.specs.declared.form.constant.ConstantKind.TheVariants as kind
 use Rattle.nr_prog.specs.declared.member.Method.{Method}
 use Rattle.nr_prog.specs.declared.member.Code.{Code}
 use Rattle.nr_prog.specs.Pool.{names, text_at, is_integer, is_long, is_string}
-use Rattle.nr_prog.specs.Legal.{is_class_text, is_void_desc}
+use Rattle.nr_prog.specs.LegalTests.{is_class_text, is_void_desc}
 
 -- whether the index names a text that passes the test
 unfoldable pub spells : (List ℕ → Bool) → List PoolEntry → ℕ → Bool
@@ -86,14 +86,17 @@ abbrev pub is_code_sized : Option Code → Bool
 is_code_sized None = true
 is_code_sized (Some code) = nat_lt 0 (length code.bytes) && nat_le (length code.bytes) 65535
 
--- A method of the name, which returns nothing or something: not both static and abstract (4.6), and neither native nor
--- synchronized, by the project's own rule.
-unfoldable pub is_in_profile : List ℕ → Bool → Method → Bool
-is_in_profile name void m =
+-- a method whatever its name: not both static and abstract (4.6), and neither native nor synchronized, by the
+-- project's own rule
+unfoldable pub is_plain : Method → Bool
+is_plain m =
     not (is_native m.flags) && not (is_synchronized m.flags)
     && not (is_static m.flags && is_abstract m.flags)
-    && is_initialiser_formed name void m.flags
     && is_code_sized m.code
+
+-- a method of the name, which returns nothing or something
+unfoldable pub is_in_profile : List ℕ → Bool → Method → Bool
+is_in_profile name void m = is_plain m && is_initialiser_formed name void m.flags
 
 -- the same, of the name and the descriptor that the method's indices name
 unfoldable pub is_profile_method : List PoolEntry → Method → Bool

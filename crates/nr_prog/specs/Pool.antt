@@ -1,6 +1,7 @@
 -- The constant pool: JVM Specification 4.4.
-use Rattle.std.specs.Prelude.{ℕ, zero, suc, ◌+◌, ◌-◌, List, length, Option, Some, None, Bool, true, false, ◌&&◌, slice_get}
+use Rattle.std.specs.Prelude.{ℕ, zero, suc, ◌+◌, ◌-◌, List, [], length, Option, Some, None, Bool, true, false, ◌&&◌, slice_get}
 use Rattle.std.specs.Option.{option_map_or}
+use Rattle.nr_base.specs.Grammar.{IsBytes}
 use Rattle.nr_prog.specs.declared.pool.PoolEntry.{PoolEntry}
 use Rattle.nr_prog.specs.declared.pool.PoolEntry.TheVariants.{Utf8, Integer, Long, Double, Class, Str, FieldRef, MethodRef, InterfaceMethodRef, NameAndType, Unused}
 
@@ -72,6 +73,15 @@ text_in e = None
 -- the bytes of the Utf8 entry at the index, and none where no such entry stands there
 unfoldable pub text_at : List PoolEntry → ℕ → Option (List ℕ)
 text_at pool index = option_map_or text_in (entry_at pool index) None
+
+-- the bytes of the entry's text, and none where it has no text
+abbrev pub bytes_in : PoolEntry → List ℕ
+bytes_in (Utf8 bytes) = bytes
+bytes_in e = []
+
+-- the entry's text is one of bytes
+abbrev pub IsText : PoolEntry → Type 0
+IsText e = IsBytes (bytes_in e)
 
 -- how many bytes the entry's text has
 abbrev pub text_len : PoolEntry → ℕ

@@ -10,7 +10,7 @@ use Rattle.nr_prog.specs.declared.fault.FormFault.{FormFault}
 use Rattle.nr_prog.specs.declared.fault.FormFault.TheVariants.{PoolKind, BadName, BadDesc, Doubled, CodePresence, OutOfProfile}
 use Rattle.nr_prog.specs.Pool.{is_entry_formed}
 use Rattle.nr_prog.specs.Faults.{first_fault, unless}
-use Rattle.nr_prog.specs.Legal.{is_field_text, is_method_text, is_field_desc, is_method_desc}
+use Rattle.nr_prog.specs.LegalTests.{is_field_text, is_method_text, is_field_desc, is_method_desc}
 use Rattle.nr_prog.specs.Members.{spells, is_class_named, is_in, is_among, is_constant_formed, is_profile_method, has_its_code}
 
 -- ---- the constant pool

@@ -1,13 +1,15 @@
 //! Classes.
 
-ghost use Rattle.std.specs.Prelude.{◌≡◌, IfOk, Ok};
+ghost use Rattle.std.specs.Prelude.{◌≡◌, ◌<◌, ◌^◌, length, All, IfOk, IfSome, Ok, option_copied};
 ghost use Rattle.nr_base.specs.Clauses.{GivesWhole};
 ghost use Rattle.nr_prog.specs.Faults.{is_free};
 ghost use Rattle.nr_prog.specs.Form.{IsFormed, IsWithinBounds, class_of};
+ghost use Rattle.nr_prog.specs.Pool.{IsText, entry_at, text_at};
 
 use crate::fault::FormFault;
 use crate::form::check_form;
 use crate::parts::ClassParts;
+use crate::pool::{PoolEntry, entry, text};
 use std::alloc::Global;
 use std::marker::Model;
 
@@ -19,16 +21,17 @@ pub struct Class {
 }
 
 impl Model for Class {
-    ghost use Rattle.std.specs.Prelude.{◌≡◌, None};
+    ghost use Rattle.std.specs.Prelude.{◌≡◌, All, None};
     ghost use Rattle.nr_prog.specs.declared.parts.ClassParts.{ClassParts};
     ghost use Rattle.nr_prog.specs.Form.{IsWithinBounds};
+    ghost use Rattle.nr_prog.specs.Pool.{IsText};
     ghost use Rattle.nr_prog.specs.Rules.{form_fault};
 
     ghost Value = { ClassParts };
 
     ghost view = { λ c. c.parts };
 
-    ghost invariant = { λ c. (form_fault c.parts ≡ None) × IsWithinBounds c.parts };
+    ghost invariant = { λ c. (form_fault c.parts ≡ None) × IsWithinBounds c.parts × All IsText c.parts.pool };
 }
 
 impl Class {
@@ -56,7 +59,23 @@ impl Class {
         ensures parts { result.now ≡ self.now }
         ensures formed { IsFormed self.now }
         ensures bounds { IsWithinBounds self.now }
+        ensures texts { All IsText self.now.pool }
     {
         &self.parts
+    }
+
+    /// The entry of the constant pool at an index, which counts from 1 (JVM Specification 4.4).
+    pub fn entry(&self, index: u16) -> Option<&PoolEntry>
+        ensures { option_copied result ≡ entry_at self.now.pool index }
+    {
+        entry(self.parts.pool.as_slice(), usize::from(index))
+    }
+
+    /// The bytes of the Utf8 entry at an index, where one stands there (JVM Specification 4.4.7).
+    pub fn text(&self, index: u16) -> Option<&[u8]>
+        ensures value { option_copied result ≡ text_at self.now.pool index }
+        ensures short { IfSome result (λ bytes. length bytes.now < 2 ^ 16) }
+    {
+        text(self.parts.pool.as_slice(), index)
     }
 }

@@ -1,7 +1,9 @@
 //! The rules of a class file's form.
 
+ghost use Rattle.std.specs.Prelude.{All, OnOk};
 ghost use Rattle.nr_prog.specs.Faults.{Finds};
 ghost use Rattle.nr_prog.specs.Form.{IsWithinBounds};
+ghost use Rattle.nr_prog.specs.Pool.{IsText};
 ghost use Rattle.nr_prog.specs.Rules.{form_fault};
 
 mod classes;
@@ -25,7 +27,8 @@ use std::alloc::Global;
 #[tactic(auto, using(crate::proofs::Walks::fails_first), unfolding(crate::specs::Rules::form_fault))]
 pub fn check_form(alloc: Global, parts: &ClassParts) -> Result<(), FormFault>
     requires { IsWithinBounds parts.now }
-    ensures { Finds result (form_fault parts.now) }
+    ensures fault { Finds result (form_fault parts.now) }
+    ensures texts { OnOk result (All IsText parts.now.pool) }
 {
     let pool = parts.pool.as_slice();
     check_pool(pool)?;

@@ -3,7 +3,7 @@
 ghost use Rattle.std.specs.Prelude.{◌≡◌, ◌<◌, ◌^◌, ◌||◌, ℕ, List, Some, All, IfOk, OnOk};
 ghost use Rattle.nr_prog.specs.Pool.{text_at, text_len};
 ghost use Rattle.nr_prog.specs.Faults.{Finds};
-ghost use Rattle.nr_prog.specs.Legal.{is_field_desc, is_field_text};
+ghost use Rattle.nr_prog.specs.LegalTests.{is_field_desc, is_field_text};
 ghost use Rattle.nr_prog.specs.Members.{is_spelled};
 ghost use Rattle.nr_prog.specs.Rules.{desc_fault, field_fault, fields_fault, name_fault};
 ghost use Rattle.nr_prog.specs.Seen.{has};
@@ -54,7 +54,8 @@ fn check_field<'a>(
 ) -> Result<(), FormFault>
     requires { All (λ e. text_len e < 2 ^ 16) pool.now }
     ensures fault { Finds result (field_fault pool.now (has seen.old) field.now) }
-    ensures seen { OnOk result ((n d : List ℕ) → has seen.new n d ≡ (has seen.old n d || is_spelled pool.now n d field.now.name field.now.desc)) }
+    ensures seen { OnOk result ((n d : List ℕ) → has seen.new n d
+        ≡ (has seen.old n d || is_spelled pool.now n d field.now.name field.now.desc)) }
 {
     let name = name(alloc, pool, field.name)?;
     let desc = descriptor(alloc, pool, field.desc)?;

@@ -2,7 +2,7 @@
 
 ghost use Rattle.std.specs.Prelude.{◌≡◌, ◌<◌, ◌^◌, length, IfOk, IsOkUnless, Some, None, if◌then◌else◌};
 ghost use Rattle.nr_base.specs.Names.{is_name};
-ghost use Rattle.nr_prog.specs.Legal.{is_class_text, is_field_desc, is_field_text, is_method_desc, is_method_text, is_void_desc};
+ghost use Rattle.nr_prog.specs.LegalTests.{is_class_text, is_field_desc, is_field_text, is_method_desc, is_method_text, is_void_desc};
 
 use crate::fault::FormFault;
 use nr_base::{Desc, DescFault, MethodDesc, Name, NameFault};
@@ -11,7 +11,8 @@ use std::alloc::Global;
 /// The name that the bytes spell, or `None` where they spell none. The error is `NoMemory`.
 fn name(alloc: Global, bytes: &[u8]) -> Result<Option<Name>, FormFault>
     requires { length bytes.now < 2 ^ 16 }
-    ensures name { IfOk result (λ name. name ≡ (if is_name bytes.now then Some bytes.now else None)) }
+    ensures name { IfOk result
+        (λ name. name ≡ (if is_name bytes.now then Some bytes.now else None)) }
     ensures err { IsOkUnless result FormFault.NoMemory }
 {
     match Name::read(alloc, bytes) {
@@ -22,7 +23,7 @@ fn name(alloc: Global, bytes: &[u8]) -> Result<Option<Name>, FormFault>
 }
 
 /// Whether the bytes are a legal name of a class (JVM Specification 4.2.1). The error is `NoMemory`.
-#[tactic(auto, unfolding(crate::specs::Legal::is_class_text))]
+#[tactic(auto, unfolding(crate::specs::LegalTests::is_class_text))]
 pub fn is_class_name(alloc: Global, bytes: &[u8]) -> Result<bool, FormFault>
     requires { length bytes.now < 2 ^ 16 }
     ensures legal { IfOk result (λ legal. legal ≡ is_class_text bytes.now) }
@@ -35,7 +36,7 @@ pub fn is_class_name(alloc: Global, bytes: &[u8]) -> Result<bool, FormFault>
 }
 
 /// Whether the bytes are a legal name of a field (JVM Specification 4.2.2). The error is `NoMemory`.
-#[tactic(auto, unfolding(crate::specs::Legal::is_field_text))]
+#[tactic(auto, unfolding(crate::specs::LegalTests::is_field_text))]
 pub fn is_field_name(alloc: Global, bytes: &[u8]) -> Result<bool, FormFault>
     requires { length bytes.now < 2 ^ 16 }
     ensures legal { IfOk result (λ legal. legal ≡ is_field_text bytes.now) }
@@ -48,7 +49,7 @@ pub fn is_field_name(alloc: Global, bytes: &[u8]) -> Result<bool, FormFault>
 }
 
 /// Whether the bytes are a legal name of a method (JVM Specification 4.2.2). The error is `NoMemory`.
-#[tactic(auto, unfolding(crate::specs::Legal::is_method_text))]
+#[tactic(auto, unfolding(crate::specs::LegalTests::is_method_text))]
 pub fn is_method_name(alloc: Global, bytes: &[u8]) -> Result<bool, FormFault>
     requires { length bytes.now < 2 ^ 16 }
     ensures legal { IfOk result (λ legal. legal ≡ is_method_text bytes.now) }
@@ -61,7 +62,7 @@ pub fn is_method_name(alloc: Global, bytes: &[u8]) -> Result<bool, FormFault>
 }
 
 /// Whether the bytes are a field's descriptor (JVM Specification 4.3.2). The error is `NoMemory`.
-#[tactic(auto, unfolding(crate::specs::Legal::is_field_desc))]
+#[tactic(auto, unfolding(crate::specs::LegalTests::is_field_desc))]
 pub fn is_field_type(alloc: Global, bytes: &[u8]) -> Result<bool, FormFault>
     requires { length bytes.now < 2 ^ 16 }
     ensures legal { IfOk result (λ legal. legal ≡ is_field_desc bytes.now) }
@@ -76,10 +77,11 @@ pub fn is_field_type(alloc: Global, bytes: &[u8]) -> Result<bool, FormFault>
 
 /// Whether a method of this descriptor returns nothing, or `None` where the bytes are no method's
 /// descriptor (JVM Specification 4.3.3). The error is `NoMemory`.
-#[tactic(auto, unfolding(crate::specs::Legal::is_method_desc, crate::specs::Legal::is_void_desc))]
+#[tactic(auto, unfolding(crate::specs::LegalTests::is_method_desc, crate::specs::LegalTests::is_void_desc))]
 pub fn is_void_method(alloc: Global, bytes: &[u8]) -> Result<Option<bool>, FormFault>
     requires { length bytes.now < 2 ^ 16 }
-    ensures void { IfOk result (λ void. void ≡ (if is_method_desc bytes.now then Some (is_void_desc bytes.now) else None)) }
+    ensures void { IfOk result (λ void. void
+        ≡ (if is_method_desc bytes.now then Some (is_void_desc bytes.now) else None)) }
     ensures err { IsOkUnless result FormFault.NoMemory }
 {
     match MethodDesc::read(alloc, bytes) {

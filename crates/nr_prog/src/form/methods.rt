@@ -3,7 +3,7 @@
 ghost use Rattle.std.specs.Prelude.{◌≡◌, ◌<◌, ◌≤◌, ◌^◌, ◌||◌, ◌+◌, ℕ, List, Some, All, IfOk, OnOk, length};
 ghost use Rattle.nr_prog.specs.Pool.{text_at, text_len};
 ghost use Rattle.nr_prog.specs.Faults.{Finds};
-ghost use Rattle.nr_prog.specs.Legal.{is_method_desc, is_method_text, is_void_desc};
+ghost use Rattle.nr_prog.specs.LegalTests.{is_method_desc, is_method_text, is_void_desc};
 ghost use Rattle.nr_prog.specs.Members.{has_flag, has_its_code, is_code_sized, is_in_profile, is_spelled};
 ghost use Rattle.nr_prog.specs.Rules.{body_fault, desc_fault, method_fault, methods_fault, name_fault};
 ghost use Rattle.nr_prog.specs.Seen.{has};
@@ -71,7 +71,7 @@ fn is_sized(code: &Option<Code>) -> bool
     }
 }
 
-#[tactic(auto, unfolding(crate::specs::Members::is_in_profile))]
+#[tactic(auto, unfolding(crate::specs::Members::is_in_profile, crate::specs::Members::is_plain))]
 fn is_of_profile(method: &Method, name: &[u8], void: bool) -> bool
     ensures { result ≡ is_in_profile name.now void method.now }
 {
@@ -104,7 +104,8 @@ fn check_method<'a>(
 ) -> Result<(), FormFault>
     requires { All (λ e. text_len e < 2 ^ 16) pool.now }
     ensures fault { Finds result (method_fault pool.now (has seen.old) place method.now) }
-    ensures seen { OnOk result ((n d : List ℕ) → has seen.new n d ≡ (has seen.old n d || is_spelled pool.now n d method.now.name method.now.desc)) }
+    ensures seen { OnOk result ((n d : List ℕ) → has seen.new n d
+        ≡ (has seen.old n d || is_spelled pool.now n d method.now.name method.now.desc)) }
 {
     let name = name(alloc, pool, method.name)?;
     let (desc, void) = descriptor(alloc, pool, method.desc)?;

@@ -1,7 +1,8 @@
 //! What each entry of a constant pool owes.
 
-ghost use Rattle.std.specs.Prelude.{◌≡◌, ◌+◌, ◌<◌, ◌≤◌, ◌^◌, length};
-ghost use Rattle.nr_prog.specs.Pool.{names, is_class, is_entry_formed, is_name_and_type, is_unused, is_utf8, is_wide};
+ghost use Rattle.std.specs.Prelude.{◌≡◌, ◌+◌, ◌<◌, ◌≤◌, ◌^◌, length, All, OnOk};
+ghost use Rattle.nr_base.specs.Grammar.{IsBytes};
+ghost use Rattle.nr_prog.specs.Pool.{IsText, names, is_class, is_entry_formed, is_name_and_type, is_unused, is_utf8, is_wide};
 ghost use Rattle.nr_prog.specs.Faults.{Finds};
 ghost use Rattle.nr_prog.specs.Rules.{pool_fault};
 
@@ -44,6 +45,19 @@ fn is_wide_at(pool: &[PoolEntry], index: usize) -> bool
     )
 }
 
+/// A text, of which contracts learn that each of its elements is a byte.
+fn know_bytes(text: &[u8])
+    ensures { IsBytes text.now }
+{}
+
+fn know_text(entry: &PoolEntry)
+    ensures { IsText entry.now }
+{
+    if let PoolEntry::Utf8(text) = entry {
+        know_bytes(text.as_slice());
+    }
+}
+
 /// Whether the entry at an index owes nothing (JVM Specification 4.4).
 #[tactic(auto, unfolding(crate::specs::Pool::is_entry_formed))]
 fn is_formed(pool: &[PoolEntry], index: usize, entry: &PoolEntry) -> bool
@@ -65,13 +79,15 @@ fn is_formed(pool: &[PoolEntry], index: usize, entry: &PoolEntry) -> bool
     }
 }
 
-/// Looks at each entry (JVM Specification 4.4).
+/// Looks at each entry (JVM Specification 4.4). In passing contracts learn that its texts are bytes.
 #[tactic(auto, using(crate::proofs::Walks::goes_on, crate::proofs::Walks::stops, crate::proofs::Walks::ends), unfolding(crate::specs::Rules::pool_fault))]
 pub fn check_pool(pool: &[PoolEntry]) -> Result<(), FormFault>
     requires { length pool.now < 2 ^ 16 }
-    ensures { Finds result (pool_fault pool.now) }
+    ensures fault { Finds result (pool_fault pool.now) }
+    ensures texts { OnOk result (All IsText pool.now) }
 {
     for (place, entry) in pool.iter().enumerate() {
+        know_text(entry);
         let index = place + 1;
         if !is_formed(pool, index, entry) {
             return Err(FormFault::PoolKind(index as u16));

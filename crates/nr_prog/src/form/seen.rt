@@ -14,7 +14,8 @@ pub fn add<'a>(
     desc: &'a [u8],
 ) -> Result<bool, AllocError>
     ensures new { IfOk result (λ new. new ≡ not (has seen.old name.now desc.now)) }
-    ensures kept { OnOk result ((n d : List ℕ) → has seen.new n d ≡ (has seen.old n d || is_pair n d name.now desc.now)) }
+    ensures kept { OnOk result
+        ((n d : List ℕ) → has seen.new n d ≡ (has seen.old n d || is_pair n d name.now desc.now)) }
 {
     let new = seen.insert((name, desc))?;
     Ok(new)

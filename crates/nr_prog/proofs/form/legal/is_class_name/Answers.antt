@@ -1,5 +1,5 @@
 use Rattle.std.proofs.Common.{sym, ◌∙◌}
-use Rattle.nr_prog.proofs.Legal.{class_text}
+use Rattle.nr_prog.proofs.LegalLaws.{class_text}
 use Rattle.nr_prog.proofs.form.legal.is_class_name.Goals as goal
 
 pub returns-in-Some-clause-legal : goal.returns-in-Some-clause-legal
