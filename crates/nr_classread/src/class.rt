@@ -3,6 +3,7 @@
 ghost use Rattle.std.specs.Prelude.{◌≡◌, ◌<◌, ◌^◌, [], IfOk, Ok, length};
 ghost use Rattle.nr_base.specs.Clauses.{Gives, GivesBy, GivesWhole};
 ghost use Rattle.nr_base.specs.Reader.{times, onto};
+ghost use Rattle.nr_prog.specs.Form.{IsFormed};
 ghost use Rattle.nr_prog.specs.declared.parts.ClassParts.{ClassParts as PartsView};
 ghost use Rattle.nr_classread.specs.ClassReading.{magic_at, version_at, parts_at, parts_of, class_of};
 ghost use Rattle.nr_classread.specs.ClassText.{ReadsAs};
@@ -112,7 +113,8 @@ fn read_parts(alloc: Global, bytes: &[u8]) -> Result<ClassParts, ClassFault>
 
 fn read_formed(alloc: Global, bytes: &[u8]) -> Result<Class, ClassFault>
     requires { length bytes.now < 2 ^ 32 }
-    ensures { GivesWhole is_free result (class_of bytes.now) }
+    ensures exact { GivesWhole is_free result (class_of bytes.now) }
+    ensures formed { IfOk result IsFormed }
 {
     let parts = read_parts(alloc, bytes)?;
     Ok(Class::from_parts(alloc, parts)?)

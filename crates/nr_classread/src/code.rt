@@ -31,7 +31,8 @@ fn read_handler(cur: &mut Cur) -> Result<Handler, ClassFault>
 
 #[tactic(auto, unfolding(nr_base::specs::Reader::onto, nr_base::specs::Reader::bind, nr_base::specs::Reader::pure, nr_base::specs::Reader::refuse, nr_base::specs::Reader::choose, nr_base::specs::Reader::from, nr_base::specs::Reader::with_fault))]
 fn handler_onto(cur: &mut Cur, handlers: &mut Items<Handler>) -> Result<(), ClassFault>
-    ensures { GivesBy is_free (λ _. handlers.new) result cur.new (onto handler_at handlers.old cur.old) }
+    ensures { GivesBy is_free (λ _. handlers.new) result cur.new
+        (onto handler_at handlers.old cur.old) }
 {
     handlers.push(read_handler(cur)?)?;
     Ok(())
@@ -87,7 +88,8 @@ fn read_attributes(
     cur: &mut Cur,
     count: u16,
 ) -> Result<Option<Items<u8>>, ClassFault>
-    ensures { Gives is_free result cur.new (times (stack_map_table_at pool.now) count None cur.old) }
+    ensures { Gives is_free result cur.new
+        (times (stack_map_table_at pool.now) count None cur.old) }
 {
     let mut seen = None;
     for _ in 0..count {

@@ -82,7 +82,8 @@ fn field_onto(
     cur: &mut Cur,
     fields: &mut Items<Field>,
 ) -> Result<(), ClassFault>
-    ensures { GivesBy is_free (λ _. fields.new) result cur.new (onto (field_at pool.now) fields.old cur.old) }
+    ensures { GivesBy is_free (λ _. fields.new) result cur.new
+        (onto (field_at pool.now) fields.old cur.old) }
 {
     fields.push(read_field(pool, cur)?)?;
     Ok(())

@@ -77,7 +77,8 @@ fn method_onto(
     cur: &mut Cur,
     methods: &mut Items<Method>,
 ) -> Result<(), ClassFault>
-    ensures { GivesBy is_free (λ _. methods.new) result cur.new (onto (method_at pool.now) methods.old cur.old) }
+    ensures { GivesBy is_free (λ _. methods.new) result cur.new
+        (onto (method_at pool.now) methods.old cur.old) }
 {
     methods.push(read_method(alloc, pool, cur)?)?;
     Ok(())

@@ -89,7 +89,8 @@ fn read_next(
     pool: &mut Items<PoolEntry>,
     is_behind_wide: bool,
 ) -> Result<bool, ClassFault>
-    ensures { GivesBy is_free (λ wide. (pool.new, wide)) result cur.new (next_at (pool.old, is_behind_wide) cur.old) }
+    ensures { GivesBy is_free (λ wide. (pool.new, wide)) result cur.new
+        (next_at (pool.old, is_behind_wide) cur.old) }
 {
     if is_behind_wide {
         pool.push(PoolEntry::Unused)?;

@@ -111,6 +111,25 @@ const MEMBERS: &str = "\
 0000 0000 0000|Form(BadName(0))
 ";
 
+// Whole files whose pool has the texts M, N, I, J and I at the indices 1, 3, 5, 6 and 7, and the fault. Two fields have
+// the same name and descriptor by the same indices, and by others of the same texts; before them stand fields of which
+// just one of the two is the same.
+const DOUBLED_FIELDS: &str = "\
+0002 0000 0005 0005 0000 0000 0005 0005 0000 0000 0000|Form(Doubled(5))
+0002 0000 0005 0005 0000 0000 0007 0007 0000 0000 0000|Form(Doubled(7))
+0004 0000 0005 0005 0000 0000 0005 0006 0000 0000 0001 0005 0000 0000 0007 0006 0000 0000 0000|Form(Doubled(7))
+";
+
+// The bytes before the fields of these files.
+const BEFORE_FIELDS: &[u8] =
+    b"\xCA\xFE\xBA\xBE\0\0\0\x32\0\x08\x01\0\x01M\x07\0\x01\x01\0\x01N\x07\0\x03\x01\0\x01I\x01\0\x01J\x01\0\x01I\0\x21\0\x02\0\x04\0\0";
+
+// What stands behind the fields' count of the stored class, 71 bytes, and the fault.
+const DOUBLED_METHODS: &str = "\
+0002 0401 0005 0006 0000 0401 0005 0006 0000 0000|Form(Doubled(5))
+0003 0401 0005 0006 0000 0401 0001 0006 0000 0401 0001 0006 0000 0000|Form(Doubled(1))
+";
+
 // Of the stored class: how many of its bytes there are, and the fault.
 const CUTS: &str = "\
 0|Short(0)
@@ -178,7 +197,9 @@ fn expect_behind<R: AllocGlobal + Abort>(rt: &R, front: &[u8], table: &str) -> R
 #[test]
 fn each_fault(rt: HostRuntime) -> Result<(), Fail> {
     expect_behind(&rt, &[], FRONTS)?;
-    expect_behind(&rt, BASE, MEMBERS)
+    expect_behind(&rt, BASE, MEMBERS)?;
+    expect_behind(&rt, BEFORE_FIELDS, DOUBLED_FIELDS)?;
+    expect_behind(&rt, M.get(..71).ok_or("bytes")?, DOUBLED_METHODS)
 }
 
 fn expect_change<R: AllocGlobal + Abort>(rt: &R, row: &str) -> Result<(), Fail> {
