@@ -7,4 +7,4 @@ out=${1:?the folder for the class files}
 stubs=$(mktemp -d)
 trap 'rm -rf "$stubs"' EXIT
 ecj -source 1.6 -target 1.6 -nowarn -proc:none -d "$stubs" stubs/nrmi/*.java
-ecj -source 1.6 -target 1.6 -nowarn -proc:none -g -cp "$stubs" -d "$out" demo/*.java book/*.java
+ecj -source 1.6 -target 1.6 -nowarn -proc:none -g -preserveAllLocals -cp "$stubs" -d "$out" demo/*.java book/*.java code/*.java

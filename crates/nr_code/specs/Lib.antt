@@ -1,0 +1,9 @@
+pub mod Faults
+pub mod Bounds
+pub mod NameTests
+pub mod Numbers
+pub mod OperandReading
+pub mod InstrReading
+pub mod Checks
+pub mod MapReading
+pub mod Decoding

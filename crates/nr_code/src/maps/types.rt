@@ -1,0 +1,128 @@
+//! The types of frame maps (JVM Specification 4.7.4, verification_type_info).
+
+ghost use Rattle.std.specs.Prelude.{◌≡◌, [], IfOk, IsOkUnless, option_copied};
+ghost use Rattle.nr_base.specs.Clauses.{Gives, GivesBy};
+ghost use Rattle.nr_base.specs.Reader.{onto, times};
+ghost use Rattle.nr_code.specs.Faults.{is_free};
+ghost use Rattle.nr_code.specs.MapReading.{class_given, class_type_at, counted_types_at, map_type_at, map_types_at, type_by_at, uninit_at};
+
+use crate::fault::CodeFault;
+use crate::pool::class_type;
+use crate::start::is_new;
+use nr_base::{Cur, Desc, Items};
+use nr_prog::{Class, Instr, MapType};
+use std::alloc::Global;
+
+#[tactic(auto, unfolding(crate::specs::MapReading::class_given, nr_base::specs::Reader::bind, nr_base::specs::Reader::pure, nr_base::specs::Reader::refuse, nr_base::specs::Reader::choose, nr_base::specs::Reader::from, nr_base::specs::Reader::with_fault))]
+fn object(at: u32, desc: Option<Desc>, cur: &mut Cur) -> Result<MapType, CodeFault>
+    ensures { Gives is_free result cur.new (class_given at desc cur.old) }
+{
+    match desc {
+        Some(desc) => Ok(MapType::Object(desc)),
+        None => Err(CodeFault::MapTag(at)),
+    }
+}
+
+#[tactic(auto, unfolding(crate::specs::MapReading::class_type_at, crate::specs::MapReading::u2_at, nr_base::specs::Reader::bind, nr_base::specs::Reader::pure, nr_base::specs::Reader::refuse, nr_base::specs::Reader::choose, nr_base::specs::Reader::from, nr_base::specs::Reader::with_fault))]
+fn read_object(alloc: Global, class: &Class, at: u32, cur: &mut Cur) -> Result<MapType, CodeFault>
+    ensures { Gives is_free result cur.new (class_type_at class.now.pool at cur.old) }
+{
+    let index = cur.u16()?;
+    object(at, class_type(alloc, class, index)?, cur)
+}
+
+#[tactic(auto, unfolding(crate::specs::MapReading::uninit_at, crate::specs::MapReading::u2_at, nr_base::specs::Reader::bind, nr_base::specs::Reader::pure, nr_base::specs::Reader::refuse, nr_base::specs::Reader::choose, nr_base::specs::Reader::from, nr_base::specs::Reader::with_fault))]
+fn read_uninit(instrs: &[Instr], at: u32, cur: &mut Cur) -> Result<MapType, CodeFault>
+    ensures { Gives is_free result cur.new (uninit_at instrs.now at cur.old) }
+{
+    let offset = cur.u16()?;
+    if is_new(instrs, offset) {
+        Ok(MapType::Uninit(offset))
+    } else {
+        Err(CodeFault::MapTag(at))
+    }
+}
+
+#[tactic(auto, unfolding(crate::specs::MapReading::type_by_at, nr_base::specs::Reader::bind, nr_base::specs::Reader::pure, nr_base::specs::Reader::refuse, nr_base::specs::Reader::choose, nr_base::specs::Reader::from, nr_base::specs::Reader::with_fault))]
+fn read_by_tag(
+    alloc: Global,
+    class: &Class,
+    instrs: &[Instr],
+    at: u32,
+    tag: u8,
+    cur: &mut Cur,
+) -> Result<MapType, CodeFault>
+    ensures { Gives is_free result cur.new (type_by_at class.now.pool instrs.now at tag cur.old) }
+{
+    match tag {
+        0 => Ok(MapType::Top),
+        1 => Ok(MapType::Int),
+        4 => Ok(MapType::Long),
+        5 => Ok(MapType::Null),
+        6 => Ok(MapType::UninitThis),
+        7 => read_object(alloc, class, at, cur),
+        8 => read_uninit(instrs, at, cur),
+        _ => Err(CodeFault::MapTag(at)),
+    }
+}
+
+/// A type.
+#[tactic(auto, unfolding(crate::specs::MapReading::map_type_at, crate::specs::MapReading::u1_at, nr_base::specs::Reader::bind, nr_base::specs::Reader::pure, nr_base::specs::Reader::refuse, nr_base::specs::Reader::choose, nr_base::specs::Reader::from, nr_base::specs::Reader::with_fault))]
+pub fn read_type(
+    alloc: Global,
+    class: &Class,
+    instrs: &[Instr],
+    cur: &mut Cur,
+) -> Result<MapType, CodeFault>
+    ensures { Gives is_free result cur.new (map_type_at class.now.pool instrs.now cur.old) }
+{
+    let at = cur.at();
+    let tag = cur.u8()?;
+    read_by_tag(alloc, class, instrs, at, tag, cur)
+}
+
+#[tactic(auto, unfolding(nr_base::specs::Reader::onto, nr_base::specs::Reader::bind, nr_base::specs::Reader::pure, nr_base::specs::Reader::refuse, nr_base::specs::Reader::choose, nr_base::specs::Reader::from, nr_base::specs::Reader::with_fault))]
+fn type_onto(
+    alloc: Global,
+    class: &Class,
+    instrs: &[Instr],
+    cur: &mut Cur,
+    types: &mut Items<MapType>,
+) -> Result<(), CodeFault>
+    ensures { GivesBy is_free (λ _. types.new) result cur.new (onto (map_type_at class.now.pool instrs.now) types.old cur.old) }
+{
+    types.push(read_type(alloc, class, instrs, cur)?)?;
+    Ok(())
+}
+
+/// So many types.
+#[tactic(auto, using(nr_base::proofs::Loops::goes_on, nr_base::proofs::Loops::is_done, crate::proofs::Exits::fails_in), unfolding(crate::specs::MapReading::map_types_at))]
+pub fn read_types(
+    alloc: Global,
+    class: &Class,
+    instrs: &[Instr],
+    count: u16,
+    cur: &mut Cur,
+) -> Result<Items<MapType>, CodeFault>
+    ensures { Gives is_free result cur.new (map_types_at class.now.pool instrs.now count cur.old) }
+{
+    let mut types = Items::new(alloc);
+    for _ in 0..count {
+        type_onto(alloc, class, instrs, cur, &mut types)?;
+    }
+    Ok(types)
+}
+
+/// A count, and so many types.
+#[tactic(auto, unfolding(crate::specs::MapReading::counted_types_at, crate::specs::MapReading::u2_at, nr_base::specs::Reader::bind, nr_base::specs::Reader::pure, nr_base::specs::Reader::refuse, nr_base::specs::Reader::choose, nr_base::specs::Reader::from, nr_base::specs::Reader::with_fault))]
+pub fn read_counted(
+    alloc: Global,
+    class: &Class,
+    instrs: &[Instr],
+    cur: &mut Cur,
+) -> Result<Items<MapType>, CodeFault>
+    ensures { Gives is_free result cur.new (counted_types_at class.now.pool instrs.now cur.old) }
+{
+    let count = cur.u16()?;
+    read_types(alloc, class, instrs, count, cur)
+}

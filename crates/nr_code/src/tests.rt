@@ -1,0 +1,4 @@
+//! Code with its faults, at places that were counted by hand, and what it is decoded to.
+
+mod faults;
+mod listing;

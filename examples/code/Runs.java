@@ -1,0 +1,7 @@
+package code;
+
+public interface Runs {
+  long run(Runs other, long a, int b);
+
+  void stop();
+}
