@@ -5,3 +5,4 @@ pub mod Files
 pub mod Listed
 pub mod Parts
 pub mod Runnable
+pub mod Loadings

@@ -1,6 +1,7 @@
 -- How the program ends, and what it writes then. The project's own rules.
-use Rattle.std.specs.Prelude.{ℕ, List, [], ◌∷◌, ◌++◌, codes}
+use Rattle.std.specs.Prelude.{ℕ, List, [], ◌∷◌, ◌++◌, ◌⊎◌, codes}
 use Rattle.std.specs.Fmt.{decimal, signed_decimal}
+use Rattle.nr_outside.specs.Bytes.{AddsPart}
 use Rattle.nr_cli.specs.Spelling.{spelled, spelled_fault}
 use Rattle.nr_cli.specs.declared.ending.End.{End}
 use Rattle.nr_cli.specs.declared.ending.End.TheVariants.{Returned, Words, Folder, Class, NoClass, ReservedName, Budget, Memory}
@@ -31,3 +32,10 @@ err_of (NoClass name) = line (codes "link NoClass " ++ spelled name)
 err_of (ReservedName name) = line (codes "link ReservedName " ++ spelled name)
 err_of (Budget n) = line (codes "budget " ++ decimal n)
 err_of Memory = line (codes "memory")
+
+-- Some first bytes of one line are added to the sink for errors: of the end's own, or of one that tells what failed
+-- besides, that memory ran out, or that the folder or the other sink failed.
+abbrev pub SaysPart : List ℕ → List ℕ → List ℕ → Type 0 → Type 0 → Type 0
+SaysPart old new own folder_failed out_failed =
+    AddsPart old new own ⊎ AddsPart old new (line (codes "memory"))
+    ⊎ (folder_failed × AddsPart old new (line (codes "folder"))) ⊎ (out_failed × AddsPart old new (line (codes "sink")))

@@ -5,3 +5,4 @@ pub mod Run
 pub mod Spelling
 pub mod Ending
 pub mod Plan
+pub mod Loading

@@ -1,5 +1,5 @@
 -- What the program does with its words over a folder's files. The project's own rules.
-use Rattle.std.specs.Prelude.{ℕ, List, [], ◌∷◌, length, Option, None, Some, Result, Ok, Err, cond, nat_le, Bool, true, ◌&&◌, is_some}
+use Rattle.std.specs.Prelude.{ℕ, ◌+◌, ◌-◌, List, [], ◌∷◌, length, slice_get, Option, None, Some, Result, Ok, Err, cond, nat_le, Bool, true, ◌&&◌, is_some}
 use Rattle.std.specs.Str.{bytes_eq}
 use Rattle.nr_outside.specs.Folder.{ToldFile, class_paths, file_at}
 use Rattle.nr_cli.specs.Words.{Command, command_of}
@@ -8,12 +8,13 @@ use Rattle.nr_cli.specs.Thin.{is_thin, first_other, first_code, class_text, is_r
 use Rattle.nr_cli.specs.Run.{run_of}
 use Rattle.nr_prog.specs.declared.member.Code.{Code}
 use Rattle.nr_prog.specs.declared.parts.ClassParts.{ClassParts}
-use Rattle.nr_classread.specs.ClassReading.{class_of}
-use Rattle.nr_classread.specs.declared.fault.ClassFault.{ClassFault}
-use Rattle.nr_classread.specs.declared.fault.ClassFault.TheVariants.{NoMemory}
+use Rattle.nr_prog.specs.declared.body.loaded.Loaded.{Loaded}
+use Rattle.nr_code.specs.Decoding.{loaded_of}
+use Rattle.nr_code.specs.declared.fault.LoadFault.{LoadFault}
+use Rattle.nr_code.specs.declared.fault.LoadFault.TheVariants as loads
 use Rattle.nr_cli.specs.declared.machine.Outcome.{Outcome}
 use Rattle.nr_cli.specs.declared.machine.Outcome.TheVariants.{Returned as RunReturned, BudgetSpent}
-use Rattle.nr_cli.specs.declared.ending.LoadFault.TheVariants.{Read, OutOfThinForm, FileTooLong}
+use Rattle.nr_cli.specs.declared.ending.LoadFault.TheVariants.{Read, Code as CodeRefused, OutOfThinForm, FileTooLong, FolderTooLong}
 use Rattle.nr_cli.specs.declared.ending.End.{End}
 use Rattle.nr_cli.specs.declared.ending.End.TheVariants.{Returned, Words, Class, NoClass, ReservedName, Budget, Memory}
 
@@ -35,54 +36,71 @@ named_end c (Some name) end = cond (is_reserved name) (ReservedName name) (cond 
 abbrev pub run_class : Command → ClassParts → End
 run_class c class = named_end c (class_text class.pool class.this_class) (run_code c.budget (first_code class.methods))
 
--- a file that can't be read
-abbrev pub fault_end : List ℕ → ClassFault → End
-fault_end path NoMemory = Memory
-fault_end path fault = Class path (Read fault)
+-- a file that can't be read, or whose code is refused
+abbrev pub fault_end : List ℕ → LoadFault → End
+fault_end path loads.NoMemory = Memory
+fault_end path (loads.Class fault) = Class path (Read fault)
+fault_end path (loads.Code method fault) = Class path (CodeRefused method fault)
 
--- a class that is of the form
-abbrev pub form_end : List ℕ → ClassParts → Result ClassParts End
-form_end path class = cond (is_thin class) (Ok class) (Err (Class path (OutOfThinForm (first_other class))))
+-- ---- one class file
 
-abbrev pub as_end : List ℕ → Result ClassParts ClassFault → Result ClassParts End
-as_end path (Ok class) = form_end path class
+abbrev pub as_end : List ℕ → Result Loaded LoadFault → Result ClassParts End
+as_end path (Ok loaded) = Ok loaded.class
 as_end path (Err fault) = Err (fault_end path fault)
 
--- The class in the file at a path, or the end of the program: first its length is looked at, then it is read, and
--- then its form is looked at.
+-- The class in the file at a path, or the end of the program: first its length is looked at, then it is read with
+-- the code of its methods.
 abbrev pub file_class : List ℕ → List ℕ → Result ClassParts End
-file_class path bytes = cond (nat_le (length bytes) 1048576) (as_end path (class_of bytes)) (Err (Class path FileTooLong))
+file_class path bytes = cond (nat_le (length bytes) 1048576) (as_end path (loaded_of bytes)) (Err (Class path FileTooLong))
 
-abbrev pub class_at_path : List ℕ → Option (List ℕ) → Result ClassParts End
-class_at_path path None = Err Memory
-class_at_path path (Some bytes) = file_class path bytes
+abbrev pub with_len : ℕ → Result ClassParts End → Result (ClassParts × ℕ) End
+with_len len (Ok class) = Ok (class, len)
+with_len len (Err end) = Err end
 
--- A second file is refused, whatever class it has.
-abbrev pub as_second : List ℕ → Result ClassParts ClassFault → End
-as_second path (Ok class) = Class path (OutOfThinForm (first_other class))
-as_second path (Err fault) = fault_end path fault
+-- the same, and how many bytes the file has
+abbrev pub loaded_at : List ℕ → Option (List ℕ) → Result (ClassParts × ℕ) End
+loaded_at path None = Err Memory
+loaded_at path (Some bytes) = with_len (length bytes) (file_class path bytes)
 
-abbrev pub second_end : List ℕ → List ℕ → End
-second_end path bytes = cond (nat_le (length bytes) 1048576) (as_second path (class_of bytes)) (Class path FileTooLong)
+-- ---- all class files
 
-abbrev pub second_at_path : List ℕ → Option (List ℕ) → End
-second_at_path path None = Memory
-second_at_path path (Some bytes) = second_end path bytes
+abbrev pub and_then_all : Result (ClassParts × ℕ) End → Result (List ClassParts × ℕ) End → Result (List ClassParts × ℕ) End
+and_then_all (Err end) others = Err end
+and_then_all (Ok x) (Err end) = Err end
+and_then_all (Ok x) (Ok others) = Ok (x.0 ∷ others.0, x.1 + others.1)
 
-abbrev pub then_run : Command → Result ClassParts End → End
-then_run c (Ok class) = run_class c class
-then_run c (Err end) = end
+-- the classes in the files at these paths and how many bytes all of them have, or the first refusal
+abbrev pub all_loaded : List ℕ → List ToldFile → List (List ℕ) → Result (List ClassParts × ℕ) End
+all_loaded dir files [] = Ok ([], 0)
+all_loaded dir files (path ∷ paths) = and_then_all (loaded_at path (file_at dir path files)) (all_loaded dir files paths)
 
-abbrev pub then_refuse : Result ClassParts End → End → End
-then_refuse (Ok class) end = end
-then_refuse (Err first) end = first
+-- ---- what is done with them
+
+abbrev pub form_end : List ℕ → ClassParts → End
+form_end path class = Class path (OutOfThinForm (first_other class))
+
+-- The form is one class file with a class of the form. The first path that isn't of it is refused: the first, where its
+-- class isn't, and else the second, whatever class it has.
+abbrev pub judged : Command → List (List ℕ) → List ClassParts → End
+judged c (path ∷ []) (class ∷ classes) = cond (is_thin class) (run_class c class) (form_end path class)
+judged c (path ∷ second ∷ paths) (class ∷ other ∷ classes) = cond (is_thin class) (form_end second other) (form_end path class)
+judged c paths classes = NoClass c.main
+
+abbrev pub last_end : Command → Option (List ℕ) → End
+last_end c None = NoClass c.main
+last_end c (Some path) = Class path FolderTooLong
+
+-- First the length of all files together is looked at, of which the last path tells, and then their form.
+abbrev pub folder_end : Command → List (List ℕ) → ℕ → List ClassParts → End
+folder_end c paths len classes = cond (nat_le len 67108864) (judged c paths classes) (last_end c (slice_get paths (length paths - 1)))
+
+abbrev pub loaded_end : Command → List (List ℕ) → Result (List ClassParts × ℕ) End → End
+loaded_end c paths (Ok x) = folder_end c paths x.1 x.0
+loaded_end c paths (Err end) = end
 
 -- the files at these paths, in order
 abbrev pub of_paths : Command → List ToldFile → List (List ℕ) → End
-of_paths c files [] = NoClass c.main
-of_paths c files (path ∷ []) = then_run c (class_at_path path (file_at c.dir path files))
-of_paths c files (path ∷ second ∷ more) =
-    then_refuse (class_at_path path (file_at c.dir path files)) (second_at_path second (file_at c.dir second files))
+of_paths c files paths = loaded_end c paths (all_loaded c.dir files paths)
 
 abbrev pub of_command : Option Command → List ToldFile → End
 of_command None files = Words

@@ -1,12 +1,14 @@
 -- How names and faults are spelled. The project's own rules.
 use Rattle.std.specs.Prelude.{ℕ, ◌+◌, ◌/◌, ◌%◌, ◌&&◌, List, [], ◌∷◌, ◌++◌, flat_map, codes, cond, nat_le, nat_lt}
-use Rattle.std.specs.Fmt.{decimal}
+use Rattle.std.specs.Fmt.{decimal, signed_decimal}
 use Rattle.nr_prog.specs.declared.fault.FormFault.{FormFault}
 use Rattle.nr_prog.specs.declared.fault.FormFault.TheVariants as form
 use Rattle.nr_classread.specs.declared.fault.ClassFault.{ClassFault}
 use Rattle.nr_classread.specs.declared.fault.ClassFault.TheVariants as faults
+use Rattle.nr_code.specs.declared.fault.CodeFault.{CodeFault}
+use Rattle.nr_code.specs.declared.fault.CodeFault.TheVariants as code_faults
 use Rattle.nr_cli.specs.declared.ending.LoadFault.{LoadFault}
-use Rattle.nr_cli.specs.declared.ending.LoadFault.TheVariants.{Read, OutOfThinForm, FileTooLong}
+use Rattle.nr_cli.specs.declared.ending.LoadFault.TheVariants.{Read, Code, OutOfThinForm, FileTooLong, FolderTooLong}
 
 -- a capital hexadecimal digit
 abbrev pub hex_digit : ℕ → ℕ
@@ -40,7 +42,21 @@ spelled_class (faults.Trailing at) = codes "Trailing " ++ decimal at
 spelled_class (faults.Form fault) = spelled_form fault
 spelled_class faults.NoMemory = codes "NoMemory"
 
+abbrev pub spelled_code : CodeFault → List ℕ
+spelled_code (code_faults.UnknownOp at) = codes "UnknownOp " ++ decimal at
+spelled_code (code_faults.OutOfProfile at code) = codes "OutOfProfile " ++ decimal at ++ codes " " ++ decimal code
+spelled_code (code_faults.Short at) = codes "Short " ++ decimal at
+spelled_code (code_faults.Target at to) = codes "Target " ++ decimal at ++ codes " " ++ signed_decimal to
+spelled_code (code_faults.PoolUse at) = codes "PoolUse " ++ decimal at
+spelled_code (code_faults.SwitchOrder at) = codes "SwitchOrder " ++ decimal at
+spelled_code (code_faults.HandlerRange index) = codes "HandlerRange " ++ decimal index
+spelled_code (code_faults.MapTag at) = codes "MapTag " ++ decimal at
+spelled_code (code_faults.MapOrder at) = codes "MapOrder " ++ decimal at
+spelled_code code_faults.NoMemory = codes "NoMemory"
+
 abbrev pub spelled_fault : LoadFault → List ℕ
 spelled_fault (Read fault) = spelled_class fault
+spelled_fault (Code method fault) = codes "Code " ++ decimal method ++ codes " " ++ spelled_code fault
 spelled_fault (OutOfThinForm at) = codes "OutOfThinForm " ++ decimal at
 spelled_fault FileTooLong = codes "FileTooLong"
+spelled_fault FolderTooLong = codes "FolderTooLong"

@@ -1,6 +1,6 @@
 -- Classes of the one form that runs so far. The form is the project's own; the flags and attributes are those of JVM
 -- Specification 4.1, 4.6 and 4.7.3.
-use Rattle.std.specs.Prelude.{ℕ, ◌+◌, ◌-◌, ◌&&◌, ◌||◌, ◌==◌, Bool, false, List, [], ◌∷◌, length, take_while, Option, None, Some, is_none, codes, cond, nat_le, nat_lt, nat_eq}
+use Rattle.std.specs.Prelude.{ℕ, bit_and, ◌+◌, ◌-◌, ◌&&◌, ◌||◌, ◌==◌, Bool, false, List, [], ◌∷◌, length, take_while, Option, None, Some, is_none, codes, cond, nat_le, nat_lt, nat_eq}
 use Rattle.std.specs.List.{starts_with}
 use Rattle.std.specs.Str.{bytes_eq}
 use Rattle.nr_prog.specs.Pool.{entry_at, text_at}
@@ -65,9 +65,9 @@ is_main pool m =
 abbrev pub first_other : ClassParts → ℕ
 first_other c = length (take_while (is_main c.pool) c.methods)
 
--- public, final and super
+-- no flags but public, final and super
 abbrev pub is_class_flags : ℕ → Bool
-is_class_flags n = n == 0 || (n == 1 || (n == 16 || (n == 17 || (n == 32 || (n == 33 || (n == 48 || n == 49))))))
+is_class_flags flags = bit_and flags 0x31 == flags
 
 -- a class of the form: below Object, with no interfaces, no fields, and the one method
 abbrev pub is_thin : ClassParts → Bool

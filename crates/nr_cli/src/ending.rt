@@ -1,17 +1,22 @@
 //! How the program ends.
 use nr_base::Items;
 use nr_classread::ClassFault;
+use nr_code::CodeFault;
 
 /// Why a class file is refused.
 #[derive(Clone, Copy, Debug, PartialEq, Eq)]
 pub enum LoadFault {
     /// The file isn't a class file.
     Read(ClassFault),
-    /// The class isn't of the form that runs so far. The number is that of the first method that isn't, or the
-    /// number of methods.
+    /// The code of the method at this place, from 0, is refused.
+    Code(u16, CodeFault),
+    /// The class files aren't of the form that runs so far, one file with one class of the form, and this is the first
+    /// that isn't. The number is that of the first method that isn't, or the number of methods.
     OutOfThinForm(u32),
     /// The file has more than 1,048,576 bytes.
     FileTooLong,
+    /// It is the last of class files that have more than 67,108,864 bytes together.
+    FolderTooLong,
 }
 
 /// How the program ends.

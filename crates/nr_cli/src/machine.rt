@@ -22,7 +22,8 @@ const IRETURN: u8 = 172;
 fn add(stack: &mut Vec<i32>) -> Result<(), AllocError>
     requires { 2 ≤ vec_len stack.old }
     ensures height { OnOk result (vec_len stack.new ≡ vec_len stack.old - 1) }
-    ensures stack { OnOk result (reverse stack.new.items ≡ stack_after 96 (reverse stack.old.items)) }
+    ensures stack { OnOk result
+        (reverse stack.new.items ≡ stack_after 96 (reverse stack.old.items)) }
 {
     let right = stack.pop().unwrap();
     let left = stack.pop().unwrap();
@@ -34,8 +35,10 @@ fn add(stack: &mut Vec<i32>) -> Result<(), AllocError>
 fn step(stack: &mut Vec<i32>, op: u8) -> Result<(), AllocError>
     requires code { (op ≡ 96) ⊎ (op ≤ 8) }
     requires operands { op ≡ 96 → 2 ≤ vec_len stack.old }
-    ensures height { OnOk result (vec_len stack.new ≡ cond (op == 96) (vec_len stack.old - 1) (vec_len stack.old + 1)) }
-    ensures stack { OnOk result (reverse stack.new.items ≡ stack_after op (reverse stack.old.items)) }
+    ensures height { OnOk result
+        (vec_len stack.new ≡ cond (op == 96) (vec_len stack.old - 1) (vec_len stack.old + 1)) }
+    ensures stack { OnOk result
+        (reverse stack.new.items ≡ stack_after op (reverse stack.old.items)) }
 {
     if op == IADD {
         return add(stack);

@@ -1,16 +1,15 @@
 //! Does what the words say, as far as the folder goes.
-ghost use Rattle.std.specs.Prelude.{◌≡◌, ◌⊎◌, ◌≤◌, true, Some, None, option_copied, is_some, map};
+ghost use Rattle.std.specs.Prelude.{◌≡◌, ◌⊎◌, ◌≤◌, ◌-◌, length, slice_get, true, Some, None, option_copied, cond, map};
 ghost use Rattle.std.specs.String.{string_bytes};
 ghost use Rattle.nr_outside.specs.Causes.{Rose};
-ghost use Rattle.nr_outside.specs.Folder.{file_at};
 ghost use Rattle.nr_cli.specs.Thin.{has_thin_code, is_thin, is_reserved};
 ghost use Rattle.nr_cli.specs.Words.{told, command_of};
-ghost use Rattle.nr_cli.specs.Plan.{class_at_path, second_at_path, then_run, then_refuse, run_code, run_class, of_paths, of_command, end_of, are_listed};
+ghost use Rattle.nr_cli.specs.Plan.{run_code, run_class, form_end, judged, last_end, folder_end, of_paths, of_command, end_of, are_listed};
 
-use crate::ending::End;
-use crate::load::{load_class, refuse_second, sorted_names};
+use crate::ending::{End, LoadFault};
+use crate::load::{Loaded, is_folder_too_long, load_all, refused, sorted_names};
 use crate::machine::{Outcome, run};
-use crate::thin::{code_of, own_name};
+use crate::thin::{code_of, count_leading, is_of_form, own_name};
 use crate::words::{RunCommand, read_words};
 use nr_base::Items;
 use nr_outside::{Fault, Folder};
@@ -67,8 +66,7 @@ fn end_of_class(alloc: Global, command: &RunCommand<'_>, class: &Class) -> End
     ensures words { result ≡ End.Words → ⊥ }
     ensures folder { result ≡ End.Folder → ⊥ }
 {
-    let parts = class.parts();
-    let Some(name) = own_name(parts) else {
+    let Some(name) = own_name(class) else {
         return no_class(alloc, command);
     };
     if has_reserved_front(name) {
@@ -77,41 +75,96 @@ fn end_of_class(alloc: Global, command: &RunCommand<'_>, class: &Class) -> End
     if name != command.main.as_slice() {
         return no_class(alloc, command);
     }
-    end_of_code(alloc, command.budget, code_of(parts))
+    end_of_code(alloc, command.budget, code_of(class))
+}
+
+// The end of the program where a class isn't of the form.
+fn refused_form(alloc: Global, path: &str, class: &Class) -> End
+    ensures end { (result ≡ End.Memory) ⊎ (result ≡ form_end path.now class.now) }
+    ensures words { result ≡ End.Words → ⊥ }
+    ensures folder { result ≡ End.Folder → ⊥ }
+{
+    refused(
+        alloc,
+        path,
+        LoadFault::OutOfThinForm(count_leading(class) as u32),
+    )
 }
 
 // The end over one class file.
-fn end_of_one<F: Folder>(alloc: Global, command: &RunCommand<'_>, folder: &mut F, path: &str) -> End
-    ensures files { F.Tells → F.files folder.new ≡ F.files folder.old }
-    ensures end { F.Tells → (result ≡ End.Memory) ⊎ (result ≡ End.Folder)
-        ⊎ (result ≡ then_run (told command.now) (class_at_path path.now (file_at command.now.dir.now path.now (F.files folder.old)))) }
+fn end_of_one(alloc: Global, command: &RunCommand<'_>, path: &str, class: &Class) -> End
+    ensures end { (result ≡ End.Memory)
+        ⊎ (result ≡ cond (is_thin class.now) (run_class (told command.now) class.now) (form_end path.now class.now)) }
     ensures words { result ≡ End.Words → ⊥ }
-    ensures faults { F.faults folder.old ≤ F.faults folder.new }
-    ensures cause { (F.Tells → is_some (file_at command.now.dir.now path.now (F.files folder.old)) ≡ true)
-        → result ≡ End.Folder → Rose (F.faults folder.old) (F.faults folder.new) }
+    ensures folder { result ≡ End.Folder → ⊥ }
 {
-    match load_class(alloc, folder, command.dir, path) {
-        Ok(class) => end_of_class(alloc, command, &class),
-        Err(end) => end,
+    if is_of_form(class) {
+        end_of_class(alloc, command, class)
+    } else {
+        refused_form(alloc, path, class)
     }
 }
 
-// The end over two class files or more.
-fn end_of_two<F: Folder>(alloc: Global, dir: &str, folder: &mut F, path: &str, second: &str) -> End
-    ensures files { F.Tells → F.files folder.new ≡ F.files folder.old }
-    ensures end { F.Tells → (result ≡ End.Memory) ⊎ (result ≡ End.Folder)
-        ⊎ (result ≡ then_refuse (class_at_path path.now (file_at dir.now path.now (F.files folder.old)))
-        (second_at_path second.now (file_at dir.now second.now (F.files folder.old)))) }
+// The end over class files of which these are the first two.
+fn end_of_two(alloc: Global, path: &str, class: &Class, second: &str, other: &Class) -> End
+    ensures end { (result ≡ End.Memory)
+        ⊎ (result ≡ cond (is_thin class.now) (form_end second.now other.now) (form_end path.now class.now)) }
     ensures words { result ≡ End.Words → ⊥ }
-    ensures faults { F.faults folder.old ≤ F.faults folder.new }
-    ensures cause { (F.Tells → is_some (file_at dir.now path.now (F.files folder.old)) ≡ true)
-        → (F.Tells → is_some (file_at dir.now second.now (F.files folder.old)) ≡ true)
-        → result ≡ End.Folder → Rose (F.faults folder.old) (F.faults folder.new) }
+    ensures folder { result ≡ End.Folder → ⊥ }
 {
-    match load_class(alloc, folder, dir, path) {
-        Ok(_) => refuse_second(alloc, folder, dir, second),
-        Err(end) => end,
+    if is_of_form(class) {
+        refused_form(alloc, second, other)
+    } else {
+        refused_form(alloc, path, class)
     }
+}
+
+// The end over the classes at these paths, of which the first two are kept.
+fn end_of_form(alloc: Global, command: &RunCommand<'_>, paths: &[String], classes: &[Class]) -> End
+    ensures end { (result ≡ End.Memory)
+        ⊎ (result ≡ judged (told command.now) (map string_bytes paths.now) classes.now) }
+    ensures words { result ≡ End.Words → ⊥ }
+    ensures folder { result ≡ End.Folder → ⊥ }
+{
+    match paths {
+        [] => no_class(alloc, command),
+        [path] => match classes {
+            [] => no_class(alloc, command),
+            [class, ..] => end_of_one(alloc, command, path, class),
+        },
+        [path, second, ..] => match classes {
+            [] => no_class(alloc, command),
+            [_] => no_class(alloc, command),
+            [class, other, ..] => end_of_two(alloc, path, class, second, other),
+        },
+    }
+}
+
+// The end where the files are too long together.
+fn end_of_long(alloc: Global, command: &RunCommand<'_>, paths: &[String]) -> End
+    ensures end { (result ≡ End.Memory)
+        ⊎ (result ≡ last_end (told command.now)
+        (slice_get (map string_bytes paths.now) (length (map string_bytes paths.now) - 1))) }
+    ensures words { result ≡ End.Words → ⊥ }
+    ensures folder { result ≡ End.Folder → ⊥ }
+{
+    match paths.last() {
+        Some(path) => refused(alloc, path, LoadFault::FolderTooLong),
+        None => no_class(alloc, command),
+    }
+}
+
+// The end over class files that were read.
+fn end_of_loaded(alloc: Global, command: &RunCommand<'_>, paths: &[String], loaded: &Loaded) -> End
+    ensures end { (result ≡ End.Memory)
+        ⊎ (result ≡ folder_end (told command.now) (map string_bytes paths.now) loaded.now.len loaded.now.classes.items) }
+    ensures words { result ≡ End.Words → ⊥ }
+    ensures folder { result ≡ End.Folder → ⊥ }
+{
+    if is_folder_too_long(loaded.len) {
+        return end_of_long(alloc, command, paths);
+    }
+    end_of_form(alloc, command, paths, &loaded.classes)
 }
 
 // The end over the class files at these paths.
@@ -126,13 +179,13 @@ fn end_of_paths<F: Folder>(
         ⊎ (result ≡ of_paths (told command.now) (F.files folder.old) (map string_bytes paths.now)) }
     ensures words { result ≡ End.Words → ⊥ }
     ensures faults { F.faults folder.old ≤ F.faults folder.new }
-    ensures cause { (F.Tells → are_listed command.now.dir.now (F.files folder.old) (map string_bytes paths.now) ≡ true)
+    ensures cause { (F.Tells → are_listed command.now.dir.now (F.files folder.old)
+        (map string_bytes paths.now) ≡ true)
         → result ≡ End.Folder → Rose (F.faults folder.old) (F.faults folder.new) }
 {
-    match paths {
-        [] => no_class(alloc, command),
-        [path] => end_of_one(alloc, command, folder, path),
-        [path, second, ..] => end_of_two(alloc, command.dir, folder, path, second),
+    match load_all(alloc, folder, command.dir, paths) {
+        Ok(loaded) => end_of_loaded(alloc, command, paths, &loaded),
+        Err(end) => end,
     }
 }
 
@@ -157,7 +210,8 @@ pub fn plan<F: Folder>(alloc: Global, words: &[&str], folder: &mut F) -> End
     ensures end { F.Tells → (result ≡ End.Memory) ⊎ (result ≡ End.Folder)
         ⊎ (result ≡ end_of (map (λ w. w.now) words.now) (F.files folder.old)) }
     ensures words { (result ≡ End.Words) → command_of (map (λ w. w.now) words.now) ≡ None }
-    ensures no_words { command_of (map (λ w. w.now) words.now) ≡ None → (result ≡ End.Words) ⊎ (result ≡ End.Memory) }
+    ensures no_words { command_of (map (λ w. w.now) words.now) ≡ None → (result ≡ End.Words)
+        ⊎ (result ≡ End.Memory) }
     ensures cause { result ≡ End.Folder → Rose (F.faults folder.old) (F.faults folder.new) }
 {
     match read_words(alloc, words) {

@@ -2,7 +2,7 @@
 ghost use Rattle.std.specs.Prelude.{◌≡◌, ◌⊎◌, ◌≤◌, ◌++◌, codes, OnOk};
 ghost use Rattle.nr_outside.specs.Causes.{HasCause, Rose};
 ghost use Rattle.nr_outside.specs.Bytes.{AddsPart};
-ghost use Rattle.nr_cli.specs.Ending.{line, status_of, out_of, err_of};
+ghost use Rattle.nr_cli.specs.Ending.{SaysPart, line, status_of, out_of, err_of};
 
 use crate::ending::End;
 use crate::spelling::spell;
@@ -28,8 +28,11 @@ fn put<S: Sink>(sink: &mut S, text: &[u8]) -> Result<(), Fault>
 // Writes the text; the status is this one, unless the sink refuses.
 fn put_last<S: Sink>(sink: &mut S, text: &[u8], status: u8) -> u8
     ensures status { (result ≡ status) ⊎ (result ≡ 11) ⊎ (result ≡ 12) }
-    ensures text { S.Tells → (Rose (S.faults sink.old) (S.faults sink.new) → ⊥) → (result ≡ 12 → ⊥) → S.bytes sink.new ≡ S.bytes sink.old ++ text.now }
-    ensures whole { S.Tells → (result ≡ 11 → ⊥) → (result ≡ 12 → ⊥) → S.bytes sink.new ≡ S.bytes sink.old ++ text.now }
+    ensures text { S.Tells → (Rose (S.faults sink.old) (S.faults sink.new) → ⊥) → (result ≡ 12 → ⊥)
+        → S.bytes sink.new ≡ S.bytes sink.old ++ text.now }
+    ensures whole { S.Tells → (result ≡ 11 → ⊥) → (result ≡ 12 → ⊥)
+        → S.bytes sink.new ≡ S.bytes sink.old ++ text.now }
+    ensures part { S.Tells → AddsPart (S.bytes sink.old) (S.bytes sink.new) text.now }
     ensures faults { S.faults sink.old ≤ S.faults sink.new }
     ensures sink { (status ≡ 11 → ⊥) → result ≡ 11 → Rose (S.faults sink.old) (S.faults sink.new) }
     ensures memory { status ≡ 12 → result ≡ 11 → Rose (S.faults sink.old) (S.faults sink.new) }
@@ -51,11 +54,17 @@ fn put_both<O: Sink, E: Sink>(
 ) -> u8
     requires { status ≡ 11 → ⊥ }
     ensures status { (result ≡ status) ⊎ (result ≡ 11) ⊎ (result ≡ 12) }
-    ensures out { O.Tells → (result ≡ 11 → ⊥) → (result ≡ 12 → ⊥) → O.bytes out.new ≡ O.bytes out.old ++ out_text.now }
+    ensures out { O.Tells → (result ≡ 11 → ⊥) → (result ≡ 12 → ⊥)
+        → O.bytes out.new ≡ O.bytes out.old ++ out_text.now }
     ensures part { O.Tells → AddsPart (O.bytes out.old) (O.bytes out.new) out_text.now }
-    ensures err { E.Tells → (result ≡ 11 → ⊥) → (result ≡ 12 → ⊥) → E.bytes err.new ≡ E.bytes err.old ++ err_text.now }
-    ensures line { E.Tells → result ≡ 11 → (Rose (E.faults err.old) (E.faults err.new) → ⊥) → E.bytes err.new ≡ E.bytes err.old ++ line (codes "sink") }
-    ensures sink { result ≡ 11 → Rose (O.faults out.old) (O.faults out.new) ⊎ Rose (E.faults err.old) (E.faults err.new) }
+    ensures err { E.Tells → (result ≡ 11 → ⊥) → (result ≡ 12 → ⊥)
+        → E.bytes err.new ≡ E.bytes err.old ++ err_text.now }
+    ensures line { E.Tells → result ≡ 11 → (Rose (E.faults err.old) (E.faults err.new) → ⊥)
+        → E.bytes err.new ≡ E.bytes err.old ++ line (codes "sink") }
+    ensures said { E.Tells → SaysPart (E.bytes err.old) (E.bytes err.new) err_text.now ⊥
+        (Rose (O.faults out.old) (O.faults out.new)) }
+    ensures sink { result ≡ 11
+        → Rose (O.faults out.old) (O.faults out.new) ⊎ Rose (E.faults err.old) (E.faults err.new) }
 {
     match put(out, out_text) {
         Ok(()) => put_last(err, err_text, status),
@@ -67,11 +76,17 @@ fn put_both<O: Sink, E: Sink>(
 /// Writes what an end of the program says, and gives its status.
 pub fn end_with<O: Sink, E: Sink>(alloc: Global, end: &End, out: &mut O, err: &mut E) -> u8
     ensures status { (result ≡ status_of end.now) ⊎ (result ≡ 11) ⊎ (result ≡ 12) }
-    ensures out { O.Tells → (result ≡ 11 → ⊥) → (result ≡ 12 → ⊥) → O.bytes out.new ≡ O.bytes out.old ++ out_of end.now }
+    ensures out { O.Tells → (result ≡ 11 → ⊥) → (result ≡ 12 → ⊥)
+        → O.bytes out.new ≡ O.bytes out.old ++ out_of end.now }
     ensures part { O.Tells → AddsPart (O.bytes out.old) (O.bytes out.new) (out_of end.now) }
-    ensures err { E.Tells → (result ≡ 11 → ⊥) → (result ≡ 12 → ⊥) → E.bytes err.new ≡ E.bytes err.old ++ err_of end.now }
-    ensures line { E.Tells → result ≡ 11 → (Rose (E.faults err.old) (E.faults err.new) → ⊥) → E.bytes err.new ≡ E.bytes err.old ++ line (codes "sink") }
-    ensures sink { result ≡ 11 → Rose (O.faults out.old) (O.faults out.new) ⊎ Rose (E.faults err.old) (E.faults err.new) }
+    ensures err { E.Tells → (result ≡ 11 → ⊥) → (result ≡ 12 → ⊥)
+        → E.bytes err.new ≡ E.bytes err.old ++ err_of end.now }
+    ensures line { E.Tells → result ≡ 11 → (Rose (E.faults err.old) (E.faults err.new) → ⊥)
+        → E.bytes err.new ≡ E.bytes err.old ++ line (codes "sink") }
+    ensures said { E.Tells → SaysPart (E.bytes err.old) (E.bytes err.new) (err_of end.now) ⊥
+        (Rose (O.faults out.old) (O.faults out.new)) }
+    ensures sink { result ≡ 11
+        → Rose (O.faults out.old) (O.faults out.new) ⊎ Rose (E.faults err.old) (E.faults err.new) }
 {
     match spell(alloc, end) {
         Ok(spelled) => put_both(spelled.status, &spelled.out, &spelled.err, out, err),

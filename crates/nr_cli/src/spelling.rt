@@ -1,12 +1,13 @@
 //! What the program writes at its end.
 ghost use Rattle.std.specs.Prelude.{◌≡◌, [], ◌∷◌, ◌++◌, ◌<◌, codes, IfOk, OnOk};
 ghost use Rattle.std.specs.Fmt.{decimal, signed_decimal};
-ghost use Rattle.nr_cli.specs.Spelling.{hex_digit, spelled_byte, spelled, spelled_form, spelled_class, spelled_fault};
+ghost use Rattle.nr_cli.specs.Spelling.{hex_digit, spelled_byte, spelled, spelled_form, spelled_class, spelled_code, spelled_fault};
 ghost use Rattle.nr_cli.specs.Ending.{line, status_of, out_of, err_of};
 
 use crate::ending::{End, LoadFault};
 use nr_base::Put;
 use nr_classread::ClassFault;
+use nr_code::CodeFault;
 use nr_prog::FormFault;
 use std::alloc::{AllocError, Global};
 
@@ -64,7 +65,8 @@ fn put_pair(
     first: u32,
     second: u32,
 ) -> Result<(), AllocError>
-    ensures { OnOk result (text.new ≡ text.old ++ (name.now ++ decimal first ++ codes " " ++ decimal second)) }
+    ensures { OnOk result
+        (text.new ≡ text.old ++ (name.now ++ decimal first ++ codes " " ++ decimal second)) }
 {
     text.bytes(format!(in alloc; "{name}{first} {second}")?.as_bytes())
 }
@@ -105,15 +107,65 @@ fn put_class(alloc: Global, text: &mut Put, fault: ClassFault) -> Result<(), All
     }
 }
 
+// A fault of the profile, at an offset, with a code.
+fn put_profile(alloc: Global, text: &mut Put, at: u32, code: u8) -> Result<(), AllocError>
+    ensures { OnOk result
+        (text.new ≡ text.old ++ (codes "OutOfProfile " ++ decimal at ++ codes " " ++ decimal code)) }
+{
+    text.bytes(format!(in alloc; "OutOfProfile {at} {code}")?.as_bytes())
+}
+
+// A fault of an exception handler.
+fn put_range(alloc: Global, text: &mut Put, index: u16) -> Result<(), AllocError>
+    ensures { OnOk result (text.new ≡ text.old ++ (codes "HandlerRange " ++ decimal index)) }
+{
+    text.bytes(format!(in alloc; "HandlerRange {index}")?.as_bytes())
+}
+
+fn put_code(alloc: Global, text: &mut Put, fault: CodeFault) -> Result<(), AllocError>
+    ensures { OnOk result (text.new ≡ text.old ++ spelled_code fault) }
+{
+    match fault {
+        CodeFault::UnknownOp(at) => put_numbered(alloc, text, "UnknownOp ", at),
+        CodeFault::OutOfProfile(at, code) => put_profile(alloc, text, at, code),
+        CodeFault::Short(at) => put_numbered(alloc, text, "Short ", at),
+        CodeFault::Target(at, to) => {
+            text.bytes(format!(in alloc; "Target {at} {to}")?.as_bytes())
+        }
+        CodeFault::PoolUse(at) => put_numbered(alloc, text, "PoolUse ", at),
+        CodeFault::SwitchOrder(at) => put_numbered(alloc, text, "SwitchOrder ", at),
+        CodeFault::HandlerRange(index) => put_range(alloc, text, index),
+        CodeFault::MapTag(at) => put_numbered(alloc, text, "MapTag ", at),
+        CodeFault::MapOrder(at) => put_numbered(alloc, text, "MapOrder ", at),
+        CodeFault::NoMemory => text.bytes(b"NoMemory"),
+    }
+}
+
+// A fault of the code of a method.
+fn put_method(
+    alloc: Global,
+    text: &mut Put,
+    method: u16,
+    fault: CodeFault,
+) -> Result<(), AllocError>
+    ensures { OnOk result
+        (text.new ≡ text.old ++ (codes "Code " ++ decimal method ++ codes " " ++ spelled_code fault)) }
+{
+    text.bytes(format!(in alloc; "Code {method} ")?.as_bytes())?;
+    put_code(alloc, text, fault)
+}
+
 fn put_fault(alloc: Global, text: &mut Put, fault: LoadFault) -> Result<(), AllocError>
     ensures { OnOk result (text.new ≡ text.old ++ spelled_fault fault) }
 {
     match fault {
         LoadFault::Read(fault) => put_class(alloc, text, fault),
+        LoadFault::Code(method, fault) => put_method(alloc, text, method, fault),
         LoadFault::OutOfThinForm(at) => {
             text.bytes(format!(in alloc; "OutOfThinForm {at}")?.as_bytes())
         }
         LoadFault::FileTooLong => text.bytes(b"FileTooLong"),
+        LoadFault::FolderTooLong => text.bytes(b"FolderTooLong"),
     }
 }
 
@@ -129,7 +181,8 @@ fn word_line(alloc: Global, word: &[u8]) -> Result<Vec<u8>, AllocError>
 }
 
 fn class_line(alloc: Global, path: &[u8], fault: LoadFault) -> Result<Vec<u8>, AllocError>
-    ensures { IfOk result (λ text. text.items ≡ line (codes "class " ++ spelled path.now ++ codes " " ++ spelled_fault fault)) }
+    ensures { IfOk result (λ text. text.items
+        ≡ line (codes "class " ++ spelled path.now ++ codes " " ++ spelled_fault fault)) }
 {
     let mut text = Put::new(alloc);
     text.bytes(b"class ")?;
@@ -156,7 +209,8 @@ fn budget_line(alloc: Global, budget: u32) -> Result<Vec<u8>, AllocError>
 }
 
 fn result_line(alloc: Global, value: i32) -> Result<Vec<u8>, AllocError>
-    ensures { IfOk result (λ text. text.items ≡ codes "result " ++ signed_decimal value ++ 10 ∷ []) }
+    ensures { IfOk result
+        (λ text. text.items ≡ codes "result " ++ signed_decimal value ++ 10 ∷ []) }
 {
     Ok(format!(in alloc; "result {value}\n")?.into_bytes())
 }

@@ -3,8 +3,9 @@ ghost use Rattle.std.specs.Prelude.{◌≡◌, ◌⊎◌, ◌++◌, false, None,
 ghost use Rattle.nr_outside.specs.Causes.{Rose};
 ghost use Rattle.nr_outside.specs.Bytes.{AddsPart};
 ghost use Rattle.nr_cli.specs.Words.{command_of};
-ghost use Rattle.nr_cli.specs.Ending.{line, status_of, out_of, err_of};
+ghost use Rattle.nr_cli.specs.Ending.{SaysPart, line, status_of, out_of, err_of};
 ghost use Rattle.nr_cli.specs.Plan.{end_of};
+ghost use Rattle.nr_cli.specs.declared.ending.End.{End};
 
 use crate::ending::End;
 use crate::plan::plan;
@@ -34,22 +35,33 @@ pub fn nrmi<F: Folder, W: Wire, O: Sink, E: Sink>(
     ensures status { F.Tells → (result ≡ 3) ⊎ (result ≡ 11) ⊎ (result ≡ 12)
         ⊎ (result ≡ status_of (end_of (map (λ w. w.now) words.now) (F.files folder.old))) }
     ensures words { result ≡ 2 → command_of (map (λ w. w.now) words.now) ≡ None }
-    ensures no_words { command_of (map (λ w. w.now) words.now) ≡ None → (result ≡ 2) ⊎ (result ≡ 11) ⊎ (result ≡ 12) }
+    ensures no_words { command_of (map (λ w. w.now) words.now) ≡ None
+        → (result ≡ 2) ⊎ (result ≡ 11) ⊎ (result ≡ 12) }
     ensures folder { result ≡ 3 → Rose (F.faults folder.old) (F.faults folder.new) }
-    ensures sink { result ≡ 11 → Rose (O.faults out.old) (O.faults out.new) ⊎ Rose (E.faults err.old) (E.faults err.new) }
+    ensures sink { result ≡ 11
+        → Rose (O.faults out.old) (O.faults out.new) ⊎ Rose (E.faults err.old) (E.faults err.new) }
 
     // What is written.
     ensures out { F.Tells → O.Tells → (result ≡ 3 → ⊥) → (result ≡ 11 → ⊥) → (result ≡ 12 → ⊥)
         → O.bytes out.new ≡ O.bytes out.old ++ out_of (end_of (map (λ w. w.now) words.now) (F.files folder.old)) }
-    ensures part { F.Tells → O.Tells → AddsPart (O.bytes out.old) (O.bytes out.new) (out_of (end_of (map (λ w. w.now) words.now) (F.files folder.old))) }
+    ensures part { F.Tells → O.Tells → AddsPart (O.bytes out.old) (O.bytes out.new)
+        (out_of (end_of (map (λ w. w.now) words.now) (F.files folder.old))) }
     ensures err { F.Tells → E.Tells → (result ≡ 3 → ⊥) → (result ≡ 11 → ⊥) → (result ≡ 12 → ⊥)
         → E.bytes err.new ≡ E.bytes err.old ++ err_of (end_of (map (λ w. w.now) words.now) (F.files folder.old)) }
-    ensures folder_line { E.Tells → result ≡ 3 → E.bytes err.new ≡ E.bytes err.old ++ line (codes "folder") }
+    ensures said { F.Tells → E.Tells → SaysPart (E.bytes err.old) (E.bytes err.new)
+        (err_of (end_of (map (λ w. w.now) words.now) (F.files folder.old)))
+        (Rose (F.faults folder.old) (F.faults folder.new)) (Rose (O.faults out.old) (O.faults out.new)) }
+    ensures said_untold { E.Tells → (end : End) × SaysPart (E.bytes err.old) (E.bytes err.new)
+        (err_of end)
+        (Rose (F.faults folder.old) (F.faults folder.new)) (Rose (O.faults out.old) (O.faults out.new)) }
+    ensures folder_line { E.Tells → result ≡ 3 → E.bytes err.new ≡ E.bytes err.old
+        ++ line (codes "folder") }
     ensures sink_line { E.Tells → result ≡ 11 → (Rose (E.faults err.old) (E.faults err.new) → ⊥)
         → E.bytes err.new ≡ E.bytes err.old ++ line (codes "sink") }
 
     // Where `main` returns and nothing of the outside fails, so it is said, unless memory runs out.
-    ensures returns { (n : ℤ) → F.Tells → end_of (map (λ w. w.now) words.now) (F.files folder.old) ≡ End.Returned n
+    ensures returns { (n : ℤ) → F.Tells
+        → end_of (map (λ w. w.now) words.now) (F.files folder.old) ≡ End.Returned n
         → (Rose (F.faults folder.old) (F.faults folder.new) → ⊥) → (Rose (O.faults out.old) (O.faults out.new) → ⊥)
         → (Rose (E.faults err.old) (E.faults err.new) → ⊥) → (result ≡ 0) ⊎ (result ≡ 12) }
 {

@@ -36,7 +36,8 @@ fn is_decimal(word: &[u8]) -> bool
 // The number of decimal digits, where it is below 2^32.
 fn parse_digits(word: &str) -> Option<u32>
     requires { is_number word.now ≡ true }
-    ensures { MatchOption result (2 ^ 32 ≤ digits_value 10 word.now) (λ n. n ≡ digits_value 10 word.now) }
+    ensures { MatchOption result (2 ^ 32 ≤ digits_value 10 word.now)
+        (λ n. n ≡ digits_value 10 word.now) }
 {
     match word.parse::<u32>() {
         Ok(number) => Some(number),

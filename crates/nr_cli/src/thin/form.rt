@@ -1,29 +1,29 @@
 //! Which classes are of the form.
-ghost use Rattle.std.specs.Prelude.{◌≡◌, ◌≤◌, true, length, take_while, codes, option_copied};
+ghost use Rattle.std.specs.Prelude.{◌≡◌, ◌≤◌, take_while, codes, option_copied};
 ghost use Rattle.nr_cli.specs.Thin.{is_text, class_text, is_main, first_other, is_class_flags, is_thin, first_code};
 
 use crate::thin::code::has_code;
 use crate::thin::names::{class_name, is_spelled};
-use nr_prog::{ClassParts, Code, Method, PoolEntry};
+use nr_prog::{Class, Code, Method};
 
-fn is_main_method(pool: &[PoolEntry], method: &Method) -> bool
-    ensures { result ≡ is_main pool.now method.now }
+fn is_main_method(class: &Class, method: &Method) -> bool
+    ensures { result ≡ is_main class.now.pool method.now }
 {
     method.flags == 9
-        && is_spelled(pool, method.name, b"main")
-        && is_spelled(pool, method.desc, b"([I)I")
+        && is_spelled(class, method.name, b"main")
+        && is_spelled(class, method.desc, b"([I)I")
         && has_code(method.code.as_ref())
 }
 
 /// How many methods at the front are of the form.
-pub fn count_leading(parts: &ClassParts) -> usize
-    ensures count { result ≡ first_other parts.now }
-    ensures bound { result ≤ length parts.now.methods }
+pub fn count_leading(class: &Class) -> usize
+    ensures count { result ≡ first_other class.now }
+    ensures bound { result ≤ 65536 }
 {
-    let pool = parts.pool.as_slice();
+    let methods = class.parts().methods.as_slice();
     let mut count = 0usize;
-    for method in parts.methods.as_slice() {
-        if !is_main_method(pool, method) {
+    for method in methods {
+        if !is_main_method(class, method) {
             return count;
         }
         count += 1;
@@ -34,36 +34,38 @@ pub fn count_leading(parts: &ClassParts) -> usize
 fn are_class_flags(flags: u16) -> bool
     ensures { result ≡ is_class_flags flags }
 {
-    matches!(flags, 0 | 1 | 16 | 17 | 32 | 33 | 48 | 49)
+    flags & 0x31 == flags
 }
 
 // Whether the superclass is Object.
-fn is_below_object(parts: &ClassParts) -> bool
-    ensures { result ≡ is_text (class_text parts.now.pool parts.now.super_class) (codes "java/lang/Object") }
+fn is_below_object(class: &Class) -> bool
+    ensures { result ≡ is_text (class_text class.now.pool class.now.super_class)
+        (codes "java/lang/Object") }
 {
-    match class_name(parts.pool.as_slice(), parts.super_class) {
+    match class_name(class, class.parts().super_class) {
         Some(name) => name == b"java/lang/Object".as_slice(),
         None => false,
     }
 }
 
 /// Whether a class is of the form.
-pub fn is_of_form(parts: &ClassParts) -> bool
-    ensures { result ≡ is_thin parts.now }
+pub fn is_of_form(class: &Class) -> bool
+    ensures { result ≡ is_thin class.now }
 {
+    let parts = class.parts();
     are_class_flags(parts.flags)
-        && is_below_object(parts)
+        && is_below_object(class)
         && parts.interfaces.is_empty()
         && parts.fields.is_empty()
         && parts.methods.len() == 1
-        && count_leading(parts) == 1
+        && count_leading(class) == 1
 }
 
 /// The code of the first method.
-pub fn code_of(parts: &ClassParts) -> Option<&Code>
-    ensures { option_copied result ≡ first_code parts.now.methods }
+pub fn code_of(class: &Class) -> Option<&Code>
+    ensures { option_copied result ≡ first_code class.now.methods }
 {
-    match parts.methods.as_slice() {
+    match class.parts().methods.as_slice() {
         [method, ..] => method.code.as_ref(),
         [] => None,
     }

@@ -57,7 +57,11 @@ const CHANGES: &str = "\
 88|1|OutOfThinForm 0
 90|0|OutOfThinForm 0
 94|5|AttrLength 81
+95|18|Code 0 PoolUse 0
+95|167|Code 0 Target 0 1632
 95|172|OutOfThinForm 0
+95|178|Code 0 OutOfProfile 0 178
+95|202|Code 0 UnknownOp 0
 96|0|OutOfThinForm 0
 97|100|OutOfThinForm 0
 98|96|OutOfThinForm 0
@@ -237,6 +241,25 @@ fn folders(rt: HostRuntime) -> Result<(), Fail> {
     expect_files(&rt, &[("b/N.class", class), ("M.class", class)], 4, nested)?;
     let empty = "nrmi: class M.class Short 0\n";
     expect_files(&rt, &[("a.class", class), ("M.class", &[])], 4, empty)?;
+    let first = "nrmi: class M.class OutOfThinForm 1\n";
+    let mut other = M_CLASS;
+    other[62] = 2;
+    let files = [
+        ("M.class", other.as_slice()),
+        ("N.class", class),
+        ("O.class", class),
+    ];
+    expect_files(&rt, &files, 4, first)?;
+    let later = "nrmi: class N.class Short 0\n";
+    let files = [("M.class", other.as_slice()), ("N.class", [].as_slice())];
+    expect_files(&rt, &files, 4, later)?;
+    let third = "nrmi: class O.class Short 0\n";
+    let files = [
+        ("M.class", class),
+        ("N.class", class),
+        ("O.class", [].as_slice()),
+    ];
+    expect_files(&rt, &files, 4, third)?;
     let spelled = "nrmi: class \\xC3\\xA4\\x20\\.class Short 0\n";
     expect_files(&rt, &[("ä \\.class", &[1])], 4, spelled)?;
     let mut reserved = class[..12].to_vec(rt.alloc())?;

@@ -6,5 +6,5 @@ use Rattle.nr_cli.proofs.thin.form.count_leading.Given as goal
 abbrev pub invariant-loop-method : goal.invariant-loop-method
 invariant-loop-method l = record {
   within : l.count ≤ l.method-index;
-  so_far : l.count + length (take_while (is_main l.pool) (drop l.method-index l.method-items)) ≡ length (take_while (is_main l.pool) l.method-items);
+  so_far : l.count + length (take_while (is_main l.class.pool) (drop l.method-index l.methods)) ≡ length (take_while (is_main l.class.pool) l.methods);
 }
