@@ -1,0 +1,10 @@
+pub mod Exits
+pub mod Lasts
+pub mod Parts
+pub mod Names
+pub mod Hellos
+pub mod Calls
+pub mod Replies
+pub mod Written
+pub mod Backs
+pub mod Unique

@@ -1,0 +1,12 @@
+use Rattle.std.proofs.Common.{arith}
+use Rattle.nr_message.proofs.Lasts.{found_whole_last, only_whole_last}
+use Rattle.nr_message.specs.Faults.{is_free}
+use Rattle.nr_message.specs.declared.fault.MessageFault.TheVariants as faults
+use Rattle.nr_message.proofs.Replies.{reply_last}
+use Rattle.nr_message.proofs.read.reply.read_reply.Goals as goal
+
+pub returns-clause-found : goal.returns-clause-found
+returns-clause-found c = found_whole_last is_free faults.Trailing reply_last c.args.body.now c.read_whole.result (λ i. omega (arith, c.type_inv.body i)) c.read_whole.ensures
+
+pub returns-clause-only : goal.returns-clause-only
+returns-clause-only c = λ x g. only_whole_last is_free faults.Trailing reply_last c.args.body.now c.read_whole.result x g c.read_whole.ensures
