@@ -1,0 +1,7 @@
+pub mod Walks
+pub mod Ranges
+pub mod Room
+pub mod Found
+pub mod Places
+pub mod Members
+pub mod Classes
