@@ -1,0 +1,5 @@
+pub mod Places
+pub mod Keys
+pub mod Words
+pub mod Making
+pub mod Classes
