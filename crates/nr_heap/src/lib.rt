@@ -1,0 +1,15 @@
+//! The model of the machine: values, heaps, states, steps and runs (JVM Specification 2.5, 2.6, 6.5), and
+//! the laws that hold of them whatever names new objects take. The definitions are in `specs/`, and each
+//! law is the contract of a function that does nothing.
+#![tactic(auto)]
+
+mod law;
+mod value;
+
+pub use law::{
+    ended_outcomes_are_runs, local_calls_end_alike, local_runs_without_copies, outcomes_keep_pairs,
+    remote_runs_are_local, remote_runs_are_mirrored, restores_are_local,
+    runs_change_what_they_reach, runs_go_on_over_frames, runs_keep_pairs,
+    scripts_do_what_they_promise,
+};
+pub use value::{Ref, Value};
