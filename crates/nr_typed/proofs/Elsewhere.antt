@@ -1,0 +1,115 @@
+-- A state that stands in its heap also stands in another typed heap that has its names with their kinds.
+use Rattle.std.proofs.Common.{ℕ, zero, suc, List, [], ◌∷◌, sym, subst, T}
+use Rattle.std.specs.Prelude.{Option, Some, None, IsSomeAnd, drop}
+use Rattle.std.specs.FinMap.{get}
+use Rattle.nr_prog.specs.declared.program.kind.Kind.{Kind}
+use Rattle.nr_prog.specs.declared.program.tables.MethodInfo.{MethodInfo}
+use Rattle.nr_prog.specs.declared.program.tables.ProgramTables.{ProgramTables}
+use Rattle.nr_prog.specs.declared.program.types.VType.{VType}
+use Rattle.nr_prog.specs.declared.program.types.VType.TheVariants as types
+use Rattle.nr_prog.specs.Kinds.{class_kind}
+use Rattle.nr_prog.specs.Subtypes.{is_assignable}
+use Rattle.nr_prog.specs.TypingFrames.{TypeFrame}
+use Rattle.nr_prog.specs.TypingCalls.{class_made_at}
+use Rattle.nr_heap.specs.declared.value.Value.{Value}
+use Rattle.nr_heap.specs.declared.value.Value.TheVariants.{Int, Long, Null, Ref}
+use Rattle.nr_heap.specs.Heaps.{Heap, on_some}
+use Rattle.nr_heap.specs.CallRules.{operands_of}
+use Rattle.nr_heap.specs.States.{Frame, Control, Running, Returned, Thrown, State}
+use Rattle.nr_typed.specs.Types.{Ty, Anything, Word, AnInt, Small, ALong, JustNull, Nullable, Object, Exact, ty_of, operand_tys, local_tys}
+use Rattle.nr_typed.specs.Belonging.{Belongs, Belong, no_place, one_place}
+use Rattle.nr_typed.specs.TypedHeaps.{TypedHeap, KeepsNames}
+use Rattle.nr_typed.specs.Standing.{Holds, AllWait, throwable, ControlStands, StandsIn}
+use Rattle.nr_typed.proofs.Typed.{some_of, at_some}
+
+-- the type says nothing of lengths
+abbrev Lengthless : Ty → Type 0
+Lengthless (Exact k n) = ⊥
+Lengthless t = Unit {0}
+
+module _ (P : ProgramTables) (frames : ℕ → List TypeFrame) (h k : Heap) (n : KeepsNames h k) where
+  kind_on : (c : Kind) (a : ℕ) → IsSomeAnd (get h a) (λ o. T (is_assignable P o.kind c)) → IsSomeAnd (get k a) (λ o. T (is_assignable P o.kind c))
+  kind_on c a b =
+      let o = some_of (get h a) (λ o. T (is_assignable P o.kind c)) b in
+      let p = n.at a o.0 o.1 in
+      at_some (get k a) p.0 (λ o. T (is_assignable P o.kind c)) p.1 (subst (λ k. T (is_assignable P k c)) (sym p.2) o.2)
+
+  value_on : (t : Ty) (v : Value) → Lengthless t → Belongs P h t v → Belongs P k t v
+  value_on Anything v l q = tt
+  value_on Word v l q = q
+  value_on AnInt v l q = q
+  value_on (Small b) v l q = q
+  value_on ALong v l q = q
+  value_on JustNull v l q = q
+  value_on (Nullable c) Null l q = tt
+  value_on (Nullable c) (Ref a) l q = kind_on c a q
+  value_on (Nullable c) (Int i) l q = q
+  value_on (Nullable c) (Long i) l q = q
+  value_on (Object c) (Ref a) l q = kind_on c a q
+  value_on (Object c) Null l q = q
+  value_on (Object c) (Int i) l q = q
+  value_on (Object c) (Long i) l q = q
+  value_on (Exact c i) v l q = absurd l
+
+  lengthless : (top : Ty) → Lengthless top → (m : MethodInfo) (t : VType) → Lengthless (ty_of top m t)
+  lengthless top l m types.Top = l
+  lengthless top l m types.Int = tt
+  lengthless top l m types.Long = tt
+  lengthless top l m types.Null = tt
+  lengthless top l m types.UninitThis = tt
+  lengthless top l m (types.Uninit i) = made (class_made_at m i)
+    where
+      made : (o : Option ℕ) → Lengthless (on_some o JustNull (λ c. Object (class_kind c)))
+      made None = tt
+      made (Some c) = tt
+  lengthless top l m (types.Class c) = tt
+
+  operands_on : (m : MethodInfo) (ts : List VType) (vs : List Value) → Belong P h (operand_tys m ts) vs → Belong P k (operand_tys m ts) vs
+  operands_on m [] vs no_place = no_place
+  operands_on m (t ∷ ts) vs (one_place a q) = one_place (value_on (ty_of Word m t) _ (lengthless Word tt m t) a) (operands_on m ts _ q)
+
+  locals_on : (m : MethodInfo) (i : ℕ) (ts : List VType) (vs : List Value) → Belong P h (local_tys m i ts) vs → Belong P k (local_tys m i ts) vs
+  locals_on m zero ts vs no_place = no_place
+  locals_on m (suc i) [] vs (one_place a q) = one_place tt (locals_on m i [] _ q)
+  locals_on m (suc i) (t ∷ ts) vs (one_place a q) = one_place (value_on (ty_of Anything m t) _ (lengthless Anything tt m t) a) (locals_on m i ts _ q)
+
+  abbrev held : (f : Frame) → Holds P frames h f → Holds P frames k f
+  held f x = record {
+    method = x.method;
+    body = x.body;
+    site = x.site;
+    types = x.types;
+    is_method = x.is_method;
+    is_body = x.is_body;
+    is_site = x.is_site;
+    is_types = x.is_types;
+    locals = locals_on x.method x.method.max_locals x.types.locals f.locals x.locals;
+  }
+
+  all_wait : (r : ℕ) (fs : List Frame) → AllWait P frames h r fs → AllWait P frames k r fs
+  all_wait r [] q = tt
+  all_wait r (f ∷ fs) q = let w = q.0 in (
+    record {
+      holds = held f w.holds;
+      is_call = w.is_call;
+      named = w.named;
+      owner = w.owner;
+      is_named = w.is_named;
+      target = w.target;
+      is_target = w.is_target;
+      above = w.above;
+      is_above = w.is_above;
+      same = w.same;
+      operands = operands_on w.holds.method (drop (operands_of w.target) w.holds.types.operands) f.operands w.operands;
+    },
+    all_wait f.method fs q.1,
+  )
+
+  control_on : (c : Control) → ControlStands P frames h c → ControlStands P frames k c
+  control_on (Running []) q = q
+  control_on (Running (f ∷ fs)) q = let s = q.0 in (record { holds = held f s.holds; operands = operands_on s.holds.method s.holds.types.operands f.operands s.operands; room = s.room }, all_wait f.method fs q.1)
+  control_on (Returned v) q = tt
+  control_on (Thrown v) q = value_on (throwable P) v tt q
+
+pub stands_elsewhere : (P : ProgramTables) (frames : ℕ → List TypeFrame) (s : State) (k : Heap) → KeepsNames s.heap k → TypedHeap P k → StandsIn P frames s → StandsIn P frames (record s { heap = k })
+stands_elsewhere P frames s k n th st = record { heap = th; control = control_on P frames s.heap k n s.control st.control }

@@ -1,0 +1,9 @@
+use Rattle.nr_typed.proofs.ExampleLinked.{example_facts}
+use Rattle.nr_typed.proofs.ExampleTyped.{example_typed}
+use Rattle.nr_typed.proofs.law.example.premises_can_be_met.Goals as goal
+
+pub returns-clause-facts : goal.returns-clause-facts
+returns-clause-facts c = example_facts
+
+pub returns-clause-typed : goal.returns-clause-typed
+returns-clause-typed c = example_typed

@@ -1,0 +1,7 @@
+pub mod Types
+pub mod Belonging
+pub mod TypedHeaps
+pub mod Fits
+pub mod Standing
+pub mod Usable
+pub mod Example

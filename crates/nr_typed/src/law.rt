@@ -1,0 +1,13 @@
+//! The laws of well-typed programs.
+
+mod elsewhere;
+mod example;
+mod progress;
+mod start;
+mod usable;
+
+pub use elsewhere::standing_needs_only_names;
+pub use example::premises_can_be_met;
+pub use progress::well_typed_programs_go_on;
+pub use start::first_states_stand;
+pub use usable::usable_pairs_are_kept;

@@ -1,0 +1,16 @@
+//! States in other heaps.
+
+ghost use Rattle.std.specs.Prelude.{ℕ, List};
+ghost use Rattle.nr_prog.specs.declared.program.tables.ProgramTables.{ProgramTables};
+ghost use Rattle.nr_prog.specs.TypingFrames.{TypeFrame};
+ghost use Rattle.nr_heap.specs.Heaps.{Heap};
+ghost use Rattle.nr_heap.specs.States.{State};
+ghost use Rattle.nr_typed.specs.Standing.{StandsIn, with_heap};
+ghost use Rattle.nr_typed.specs.TypedHeaps.{KeepsNames, TypedHeap};
+
+/// Promises that a state that stands in its heap stands in each typed heap that has the same names with
+/// their kinds, and perhaps further names. It does nothing.
+pub fn standing_needs_only_names()
+    ensures { (p : ProgramTables) (frames : ℕ → List TypeFrame) (s : State) (h : Heap)
+        → StandsIn p frames s → KeepsNames s.heap h → TypedHeap p h → StandsIn p frames (with_heap h s) }
+{}

@@ -1,0 +1,13 @@
+//! That the premises of the laws can be met.
+
+ghost use Rattle.nr_prog.specs.TypingFacts.{TypingFacts};
+ghost use Rattle.nr_prog.specs.WellTyped.{WellTyped};
+ghost use Rattle.nr_typed.specs.Example.{example};
+
+/// Promises that the premises of the laws can be met: a program with two classes, an interface, an
+/// override and an exception handler has the facts that typing takes of a linked program, and is well
+/// typed. It does nothing.
+pub fn premises_can_be_met()
+    ensures facts { TypingFacts example }
+    ensures typed { WellTyped example }
+{}

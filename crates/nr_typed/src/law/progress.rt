@@ -1,0 +1,21 @@
+//! Progress and preservation.
+
+ghost use Rattle.std.specs.Prelude.{ℕ};
+ghost use Rattle.nr_prog.specs.declared.program.tables.ProgramTables.{ProgramTables};
+ghost use Rattle.nr_prog.specs.TypingFacts.{TypingFacts};
+ghost use Rattle.nr_prog.specs.WellTyped.{WellTyped};
+ghost use Rattle.nr_heap.specs.States.{IsEnd, State};
+ghost use Rattle.nr_heap.specs.Steps.{Run, Step};
+ghost use Rattle.nr_typed.specs.Standing.{StandsIn};
+
+/// Promises that the machine of a well-typed program never stands still before its end: from each state
+/// that stands in its heap and is no end, there is a step; and each step, and so each run, leads to a
+/// state that stands. It does nothing.
+pub fn well_typed_programs_go_on()
+    ensures progress { (p : ProgramTables) (s : State) → TypingFacts p → (typed : WellTyped p)
+        → StandsIn p typed.frames s → ¬ IsEnd s.control → (t : State) × Step p s t }
+    ensures preservation { (p : ProgramTables) (s t : State) → TypingFacts p → (typed : WellTyped p)
+        → StandsIn p typed.frames s → Step p s t → StandsIn p typed.frames t }
+    ensures runs { (p : ProgramTables) (n : ℕ) (s t : State) → TypingFacts p → (typed : WellTyped p)
+        → StandsIn p typed.frames s → Run p s n t → StandsIn p typed.frames t }
+{}

@@ -1,0 +1,23 @@
+//! First states.
+
+ghost use Rattle.std.specs.Prelude.{◌≡◌, ℕ, List, Some};
+ghost use Rattle.nr_prog.specs.declared.body.whole.Body.{Body};
+ghost use Rattle.nr_prog.specs.declared.program.tables.MethodInfo.{MethodInfo};
+ghost use Rattle.nr_prog.specs.declared.program.tables.ProgramTables.{ProgramTables};
+ghost use Rattle.nr_prog.specs.Programs.{method_at};
+ghost use Rattle.nr_prog.specs.TypingFacts.{TypingFacts};
+ghost use Rattle.nr_prog.specs.WellTyped.{WellTyped};
+ghost use Rattle.nr_heap.specs.declared.value.Value.{Value};
+ghost use Rattle.nr_heap.specs.Heaps.{Heap};
+ghost use Rattle.nr_typed.specs.Belonging.{Belong};
+ghost use Rattle.nr_typed.specs.Standing.{StandsIn, first_state};
+ghost use Rattle.nr_typed.specs.TypedHeaps.{TypedHeap};
+ghost use Rattle.nr_typed.specs.Types.{argument_tys};
+
+/// Promises that the first state of a method with code stands, where the heap is typed and the arguments,
+/// the last first, belong to the method's parameters and its receiver's class. It does nothing.
+pub fn first_states_stand()
+    ensures { (p : ProgramTables) (h : Heap) (n : ℕ) (m : MethodInfo) (body : Body) (args : List Value)
+        → TypingFacts p → (typed : WellTyped p) → method_at p n ≡ Some m → m.body ≡ Some body
+        → TypedHeap p h → Belong p h (argument_tys m) args → StandsIn p typed.frames (first_state h n m args) }
+{}

@@ -1,0 +1,11 @@
+//! What belongs to the types of the verifier (JVM Specification 4.10.1), which states stand in their heap,
+//! and the laws of well-typed programs. The definitions are in `specs/`, and each law is the contract of a
+//! function that does nothing.
+#![tactic(auto)]
+
+mod law;
+
+pub use law::{
+    first_states_stand, premises_can_be_met, standing_needs_only_names, usable_pairs_are_kept,
+    well_typed_programs_go_on,
+};
