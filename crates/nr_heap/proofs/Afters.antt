@@ -2,7 +2,7 @@
 use Rattle.std.proofs.Common.{◌≡◌, ℕ, List, [], ◌∷◌, length, refl, subst, subst₂, Bool, true, false}
 use Rattle.std.specs.Prelude.{Option, Some, None, take, drop, nat_le, if◌then◌else◌}
 use Rattle.std.specs.Option.{option_map, option_and_then}
-use Rattle.nr_prog.specs.declared.program.kind.Kind.{Kind}
+use Rattle.nr_linked.specs.declared.program.kind.Kind.{Kind}
 use Rattle.nr_heap.specs.declared.value.Value.{Value}
 use Rattle.nr_heap.specs.declared.value.Value.TheVariants.{Ref}
 use Rattle.nr_heap.specs.Heaps.{Obj, on_some}
@@ -10,9 +10,9 @@ use Rattle.nr_heap.specs.Scripts.{Within, Ending}
 use Rattle.nr_heap.specs.States.{Frame, Control, Running}
 use Rattle.nr_heap.specs.Alike.{Like, like_ref, no_more, one_more, AlikeAt, alike_at, AlikeFrame, AlikeFrames, no_frame, one_frame, AlikeResult, AlikeControl, both_run, both_return, both_throw}
 use Rattle.nr_heap.proofs.Matchings.{AlikeEnding, both_go, both_threw, both_gave, both_called, AlikeWithin}
-use Rattle.nr_prog.specs.declared.program.tables.MethodInfo.{MethodInfo}
-use Rattle.nr_prog.specs.declared.program.tables.ProgramTables.{ProgramTables}
-use Rattle.nr_prog.specs.Programs.{method_at}
+use Rattle.nr_linked.specs.declared.program.tables.MethodInfo.{MethodInfo}
+use Rattle.nr_linked.specs.declared.program.tables.ProgramTables.{ProgramTables}
+use Rattle.nr_linked.specs.Programs.{method_at}
 use Rattle.nr_heap.specs.CallRules.{operands_of}
 use Rattle.nr_heap.specs.Steps.{handler_at, unwound, next_offset, with_result, given, first_frame, entered, after}
 use Rattle.nr_heap.proofs.Pairing.{lengths}

@@ -9,7 +9,7 @@ use Rattle.nr_heap.specs.States.{Frame, Control, Running, Returned, Thrown, Stat
 use Rattle.nr_heap.specs.Alike.{Like, like_int, like_long, like_null, like_ref, AllLike, no_more, one_more, AlikeFrames, no_frame, one_frame, AlikeControl, both_run, both_return, both_throw}
 use Rattle.nr_heap.specs.Pairs.{IsPair, StartOf, PairedStates}
 use Rattle.nr_heap.proofs.Matchings.{Matched, AlikeState}
-use Rattle.nr_prog.specs.declared.program.tables.ProgramTables.{ProgramTables}
+use Rattle.nr_linked.specs.declared.program.tables.ProgramTables.{ProgramTables}
 use Rattle.nr_heap.specs.CallRules.{operands_of}
 use Rattle.nr_heap.specs.Steps.{given, first_frame, entered, script_at, within, StepOf, Step, Run}
 use Rattle.nr_heap.specs.Locals.{start_of, CallRun}
@@ -18,8 +18,8 @@ use Rattle.nr_heap.specs.LocalEntries.{AllRestorable, IsLocal, EachLocal}
 use Rattle.nr_heap.specs.Asks.{Asks, asked_args, waiting, Answered, Entry, AnswerStep, AskStep, AskRun, arrived, own, asked}
 use Rattle.nr_heap.specs.Overs.{over, with_front}
 use Rattle.std.specs.Prelude.{is_some}
-use Rattle.nr_prog.specs.Sites.{site_at}
-use Rattle.nr_prog.specs.declared.program.built_in.BuiltIn.TheVariants.{AbstractMethodError}
+use Rattle.nr_linked.specs.Sites.{site_at}
+use Rattle.nr_linked.specs.declared.program.built_in.BuiltIn.TheVariants.{AbstractMethodError}
 use Rattle.nr_heap.specs.Throws.{throw_new, onward, with_found}
 use Rattle.nr_heap.specs.CallRules.{built_in_rule}
 use Rattle.nr_heap.specs.Rules.{rule, invoke_rule, script}

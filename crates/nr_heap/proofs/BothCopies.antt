@@ -9,7 +9,7 @@ use Rattle.nr_heap.specs.Heaps.{Obj, Heap, on_some}
 use Rattle.nr_heap.specs.Alike.{like_int, like_long, like_null, like_ref, AllLike, no_more, one_more, AlikeAt, alike_at}
 use Rattle.nr_heap.specs.Pairs.{name_at, slot_name, Reach, Holds}
 use Rattle.nr_heap.proofs.Matchings.{Matched}
-use Rattle.nr_prog.specs.declared.program.tables.ProgramTables.{ProgramTables}
+use Rattle.nr_linked.specs.declared.program.tables.ProgramTables.{ProgramTables}
 use Rattle.nr_heap.specs.Locals.{IsShared, copied_value, copied_object, CopyArgs}
 use Rattle.nr_heap.specs.Locals.{copy_of}
 use Rattle.nr_heap.proofs.Heaps.{at_more, held_left, held_right, sum_left}

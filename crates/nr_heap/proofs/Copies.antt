@@ -8,14 +8,14 @@ use Rattle.nr_heap.specs.Heaps.{Obj, Heap}
 use Rattle.nr_heap.specs.Alike.{AllLike, AlikeAt, alike_at}
 use Rattle.nr_heap.specs.Pairs.{Reach, Holds}
 use Rattle.nr_heap.proofs.Matchings.{Matched}
-use Rattle.nr_prog.specs.declared.program.tables.ProgramTables.{ProgramTables}
+use Rattle.nr_linked.specs.declared.program.tables.ProgramTables.{ProgramTables}
 use Rattle.nr_heap.specs.Locals.{IsShared, copied_object}
 use Rattle.std.specs.Prelude.{IsTrue, T}
 use Rattle.std.specs.Ordering.{nat_cmp, eq_by_cmp, is_eq}
 use Rattle.std.proofs.lemmas.Cmp.{nat_cmp_total}
 use Rattle.std.proofs.Math.Decide.{ℕ_discrete}
 use Rattle.std.specs.FinMap.{FinMap, empty, get-empty, get-insert, find, is_sorted}
-use Rattle.nr_prog.specs.Restorable.{is_restorable}
+use Rattle.nr_linked.specs.Restorable.{is_restorable}
 use Rattle.std.specs.FinMap.Entries.{below_all}
 use Rattle.nr_heap.proofs.Cells.{first, second, less}
 use Rattle.nr_heap.proofs.Heaps.{eq_self, not_equal, get_same, get_other, held_right, sum_left}

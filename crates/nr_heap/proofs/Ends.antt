@@ -3,7 +3,7 @@ use Rattle.std.proofs.Common.{◌≡◌, ℕ, zero, suc, refl, ap, subst}
 use Rattle.nr_heap.specs.States.{Control, Running, Returned, Thrown, State, IsEnd}
 use Rattle.nr_heap.specs.Alike.{AlikeControl, both_run, both_return, both_throw}
 use Rattle.nr_heap.proofs.Matchings.{AlikeState}
-use Rattle.nr_prog.specs.declared.program.tables.ProgramTables.{ProgramTables}
+use Rattle.nr_linked.specs.declared.program.tables.ProgramTables.{ProgramTables}
 use Rattle.nr_heap.specs.Steps.{StepOf, Run}
 use Rattle.nr_heap.proofs.Runs.{steps_paired}
 

@@ -5,7 +5,7 @@ use Rattle.nr_heap.specs.declared.value.Value.{Value}
 use Rattle.nr_heap.specs.declared.value.Value.TheVariants.{Null}
 use Rattle.nr_heap.specs.States.{Frame, Control}
 use Rattle.nr_heap.specs.Alike.{like_int, like_long, like_null, like_ref, AllLike, no_more, one_more, AlikeFrame, AlikeFrames, no_frame, one_frame, AlikeResult, no_result, one_result, AlikeControl, both_run, both_return, both_throw}
-use Rattle.nr_prog.specs.declared.program.tables.MethodInfo.{MethodInfo}
+use Rattle.nr_linked.specs.declared.program.tables.MethodInfo.{MethodInfo}
 use Rattle.nr_heap.specs.Steps.{with_result, spread, first_locals}
 use mathlib.Core.List.{reverse_aux}
 use Rattle.nr_heap.proofs.Heaps.{all_more, like_more}

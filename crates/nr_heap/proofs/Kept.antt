@@ -7,7 +7,7 @@ use Rattle.nr_heap.specs.States.{Frame, Control, State, IsEnd}
 use Rattle.nr_heap.specs.Alike.{Like, like_int, like_long, like_null, like_ref, AlikeFrames, no_frame, one_frame, AlikeResult, no_result, one_result, AlikeControl, both_run, both_return, both_throw, Any}
 use Rattle.nr_heap.specs.Pairs.{name_in, IsPair, Listed, InFrames, InResults, InControl, StartOf, PairedStates}
 use Rattle.nr_heap.proofs.Matchings.{Matched, AlikeState}
-use Rattle.nr_prog.specs.declared.program.tables.ProgramTables.{ProgramTables}
+use Rattle.nr_linked.specs.declared.program.tables.ProgramTables.{ProgramTables}
 use Rattle.nr_heap.specs.Steps.{Run}
 use Rattle.nr_heap.proofs.Heaps.{sum_left}
 use Rattle.nr_heap.proofs.Paths.{names_match, slot_matched, paired_matched, matched_paired, some_eq, none_some}

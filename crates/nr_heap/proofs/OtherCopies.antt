@@ -7,7 +7,7 @@ use Rattle.nr_heap.specs.Heaps.{Heap}
 use Rattle.nr_heap.specs.Alike.{AllLike}
 use Rattle.nr_heap.specs.Pairs.{Reach, Holds}
 use Rattle.nr_heap.proofs.Matchings.{Matched}
-use Rattle.nr_prog.specs.declared.program.tables.ProgramTables.{ProgramTables}
+use Rattle.nr_linked.specs.declared.program.tables.ProgramTables.{ProgramTables}
 use Rattle.nr_heap.specs.Locals.{IsShared, copied_value, CopyArgs}
 use Rattle.std.specs.Ordering.{nat_cmp}
 use Rattle.std.proofs.Common.{T}

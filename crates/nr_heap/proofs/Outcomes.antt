@@ -7,9 +7,9 @@ use Rattle.nr_heap.specs.States.{Frame, Control, State, IsEnd}
 use Rattle.nr_heap.specs.Alike.{AlikeFrames, no_frame, one_frame, AlikeControl, both_run, both_return, both_throw}
 use Rattle.nr_heap.specs.Pairs.{StartOf, PairedStates}
 use Rattle.nr_heap.proofs.Matchings.{AlikeState}
-use Rattle.nr_prog.specs.declared.program.tables.MethodInfo.{MethodInfo}
-use Rattle.nr_prog.specs.declared.program.tables.ProgramTables.{ProgramTables}
-use Rattle.nr_prog.specs.Programs.{method_at}
+use Rattle.nr_linked.specs.declared.program.tables.MethodInfo.{MethodInfo}
+use Rattle.nr_linked.specs.declared.program.tables.ProgramTables.{ProgramTables}
+use Rattle.nr_linked.specs.Programs.{method_at}
 use Rattle.nr_heap.specs.Steps.{Run}
 use Rattle.std.specs.Prelude.{nat_lt, ◌||◌}
 use Rattle.std.specs.Option.{option_map_or}

@@ -9,16 +9,16 @@ use Rattle.nr_heap.specs.States.{Frame, Control, Running, Returned, Thrown, Stat
 use Rattle.nr_heap.specs.Alike.{like_ref, AllLike, no_more, AlikeObj, AlikeFrames, no_frame, one_frame, AlikeResult, AlikeControl, both_run, both_return, both_throw}
 use Rattle.nr_heap.specs.Pairs.{StartOf, PairedStates}
 use Rattle.nr_heap.proofs.Matchings.{Matched, AlikeState}
-use Rattle.nr_prog.specs.declared.program.tables.ProgramTables.{ProgramTables}
-use Rattle.nr_prog.specs.Programs.{method_at}
+use Rattle.nr_linked.specs.declared.program.tables.ProgramTables.{ProgramTables}
+use Rattle.nr_linked.specs.Programs.{method_at}
 use Rattle.nr_heap.specs.CallRules.{operands_of}
 use Rattle.nr_heap.specs.Steps.{first_locals, Run}
 use Rattle.nr_heap.specs.Locals.{start_of, Local}
 use Rattle.nr_heap.specs.LocalEntries.{IsFaulted, IsOwn, Fated, AllFated}
 use Rattle.nr_heap.specs.Asks.{Asks, asked_args, waiting, Answered, Faulted, Entry, AnswerStep, AskStep, AskRun, arrived, own, asked}
-use Rattle.nr_prog.specs.declared.program.tables.Resolved.TheVariants as resolved
-use Rattle.nr_prog.specs.Kinds.{class_kind}
-use Rattle.nr_prog.specs.Sites.{site_at}
+use Rattle.nr_linked.specs.declared.program.tables.Resolved.TheVariants as resolved
+use Rattle.nr_linked.specs.Kinds.{class_kind}
+use Rattle.nr_linked.specs.Sites.{site_at}
 use Rattle.nr_heap.specs.Throws.{zeros}
 use Rattle.nr_heap.proofs.Heaps.{made, with_new}
 use Rattle.nr_heap.proofs.Pairing.{plains_like}

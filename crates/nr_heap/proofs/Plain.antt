@@ -7,7 +7,7 @@ use Rattle.nr_heap.specs.declared.value.Value.TheVariants.{Int, Long, Null, Ref}
 use Rattle.nr_heap.specs.Heaps.{Obj, Heap, on_some}
 use Rattle.nr_heap.specs.States.{State}
 use Rattle.nr_heap.specs.Pairs.{Reach, Holds}
-use Rattle.nr_prog.specs.declared.program.tables.ProgramTables.{ProgramTables}
+use Rattle.nr_linked.specs.declared.program.tables.ProgramTables.{ProgramTables}
 use Rattle.nr_heap.specs.Locals.{IsShared, copied_value, CopyArgs, CallRun, Local}
 use Rattle.nr_heap.specs.LocalEntries.{AllRestorable}
 use Rattle.std.specs.Ordering.{nat_cmp}

@@ -9,7 +9,7 @@ use Rattle.nr_heap.specs.States.{Frame, Control, Running, Returned, Thrown, Stat
 use Rattle.nr_heap.specs.Alike.{Like, like_int, like_long, like_null, like_ref, AllLike, no_more, one_more, AlikeAt, alike_at, AlikeFrames, no_frame, one_frame, no_result, one_result, AlikeControl, both_run, both_return, both_throw, Any}
 use Rattle.nr_heap.specs.Pairs.{name_in, name_at, slot_name, Reach, NamedInFrames, NamedIn}
 use Rattle.nr_heap.proofs.Matchings.{Matched}
-use Rattle.nr_prog.specs.declared.program.tables.ProgramTables.{ProgramTables}
+use Rattle.nr_linked.specs.declared.program.tables.ProgramTables.{ProgramTables}
 use Rattle.nr_heap.specs.Steps.{Run}
 use Rattle.nr_heap.proofs.Paths.{leads_on, at_match}
 use Rattle.nr_heap.proofs.Runs.{runs_paired}

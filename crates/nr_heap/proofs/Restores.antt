@@ -8,7 +8,7 @@ use Rattle.nr_heap.specs.States.{Frame, Control, Running, Returned, Thrown, Stat
 use Rattle.nr_heap.specs.Alike.{like_int, like_long, like_null, like_ref, AlikeAt, AlikeResult, no_result, one_result, AlikeControl, both_run, both_return, both_throw, Any}
 use Rattle.nr_heap.specs.Pairs.{slot_name, IsPair, Listed, StartOf, PairedStates}
 use Rattle.nr_heap.proofs.Matchings.{Matched, OnLeft, Moved}
-use Rattle.nr_prog.specs.declared.program.tables.ProgramTables.{ProgramTables}
+use Rattle.nr_linked.specs.declared.program.tables.ProgramTables.{ProgramTables}
 use Rattle.nr_heap.specs.Steps.{Run}
 use Rattle.nr_heap.specs.Same.{OldAndResults, Same}
 use Rattle.nr_heap.specs.LocalEntries.{BackAndResults, RestoresPairs}

@@ -5,7 +5,7 @@ use Rattle.nr_heap.specs.Scripts.{Script}
 use Rattle.nr_heap.specs.States.{Frame, Control, State}
 use Rattle.nr_heap.specs.Alike.{AlikeFrame, AlikeFrames, no_frame, one_frame, AlikeControl, both_run, both_return, both_throw}
 use Rattle.nr_heap.proofs.Matchings.{Matched, Moved, AlikeWithin, AlikeState}
-use Rattle.nr_prog.specs.declared.program.tables.ProgramTables.{ProgramTables}
+use Rattle.nr_linked.specs.declared.program.tables.ProgramTables.{ProgramTables}
 use Rattle.nr_heap.specs.Steps.{script_at, within, StepBy, StepOf, Step, Run}
 use Rattle.nr_heap.proofs.Heaps.{moved_none, moved_then}
 use Rattle.nr_heap.proofs.Pairing.{paired, Later}

@@ -5,13 +5,13 @@ use Rattle.nr_optable.specs.declared.table.Letter.{Letter}
 use Rattle.nr_optable.specs.declared.table.Letter.TheVariants as letters
 use Rattle.nr_optable.specs.Arithmetic.{to_char}
 use Rattle.nr_optable.specs.Operations.{beside}
-use Rattle.nr_prog.specs.declared.program.built_in.BuiltIn.TheVariants.{ArrayStoreException, NegativeArraySizeException}
-use Rattle.nr_prog.specs.declared.program.kind.Base.{Base}
-use Rattle.nr_prog.specs.declared.program.kind.Base.TheVariants as bases
-use Rattle.nr_prog.specs.declared.program.kind.Kind.{Kind}
-use Rattle.nr_prog.specs.declared.program.tables.ProgramTables.{ProgramTables}
-use Rattle.nr_prog.specs.Kinds.{array_of, element_of, is_array, is_reference, is_same_primitive}
-use Rattle.nr_prog.specs.Subtypes.{is_sub}
+use Rattle.nr_linked.specs.declared.program.built_in.BuiltIn.TheVariants.{ArrayStoreException, NegativeArraySizeException}
+use Rattle.nr_linked.specs.declared.program.kind.Base.{Base}
+use Rattle.nr_linked.specs.declared.program.kind.Base.TheVariants as bases
+use Rattle.nr_linked.specs.declared.program.kind.Kind.{Kind}
+use Rattle.nr_linked.specs.declared.program.tables.ProgramTables.{ProgramTables}
+use Rattle.nr_linked.specs.Kinds.{array_of, element_of, is_array, is_reference, is_same_primitive}
+use Rattle.nr_linked.specs.Subtypes.{is_sub}
 use Rattle.nr_heap.specs.Scripts.{PlainInt, PlainLong, Script, Stuck, Push, PopInt, PopLong, Pick, Drop, AskNull, AskKind, ReadSlot, WriteSlot, Make}
 use Rattle.nr_heap.specs.Throws.{zero_of, throw_new, not_null, at_index, with_found, which}
 

@@ -6,18 +6,18 @@ use Rattle.std.specs.Str.{bytes_eq}
 use Rattle.std.specs.Option.{option_and_then}
 use Rattle.std.specs.Fmt.{signed_decimal}
 use Rattle.nr_optable.specs.Arithmetic.{to_char}
-use Rattle.nr_prog.specs.declared.program.built_in.BuiltIn.TheVariants.{AbstractMethodError, IncompatibleClassChangeError, Object, Out}
-use Rattle.nr_prog.specs.declared.program.kind.Base.TheVariants as bases
-use Rattle.nr_prog.specs.declared.program.kind.Kind.{Kind}
-use Rattle.nr_prog.specs.declared.program.tables.MethodInfo.{MethodInfo}
-use Rattle.nr_prog.specs.declared.program.tables.ProgramTables.{ProgramTables}
-use Rattle.nr_prog.specs.BuiltIns.{built_in}
-use Rattle.nr_prog.specs.Kinds.{class_kind, class_in, element_of, is_array}
-use Rattle.nr_prog.specs.Linked.{is_loaded}
+use Rattle.nr_linked.specs.declared.program.built_in.BuiltIn.TheVariants.{AbstractMethodError, IncompatibleClassChangeError, Object, Out}
+use Rattle.nr_linked.specs.declared.program.kind.Base.TheVariants as bases
+use Rattle.nr_linked.specs.declared.program.kind.Kind.{Kind}
+use Rattle.nr_linked.specs.declared.program.tables.MethodInfo.{MethodInfo}
+use Rattle.nr_linked.specs.declared.program.tables.ProgramTables.{ProgramTables}
+use Rattle.nr_linked.specs.BuiltIns.{built_in}
+use Rattle.nr_linked.specs.Kinds.{class_kind, class_in, element_of, is_array}
+use Rattle.nr_linked.specs.Linked.{is_loaded}
 use Rattle.nr_prog.specs.Members.{is_static}
-use Rattle.nr_prog.specs.Programs.{method_at, super_of}
-use Rattle.nr_prog.specs.Selection.{is_called, is_private, selected}
-use Rattle.nr_prog.specs.Subtypes.{is_sub}
+use Rattle.nr_linked.specs.Programs.{method_at, super_of}
+use Rattle.nr_linked.specs.Selection.{is_called, is_private, selected}
+use Rattle.nr_linked.specs.Subtypes.{is_sub}
 use Rattle.nr_heap.specs.Heaps.{on_some}
 use Rattle.nr_heap.specs.Scripts.{Script, Call, PopInt, PopLong, Pick, Drop, AskKind, ReadSlot, Print}
 use Rattle.nr_heap.specs.Throws.{throw_new, not_null, with_found, which}

@@ -2,7 +2,7 @@
 use Rattle.std.specs.Prelude.{ℕ, ◌+◌, List, [], ◌∷◌, length, Option, Some, None}
 use Rattle.std.specs.Ordering.{nat_cmp}
 use Rattle.std.specs.FinMap.{FinMap, entries}
-use Rattle.nr_prog.specs.declared.program.kind.Kind.{Kind}
+use Rattle.nr_linked.specs.declared.program.kind.Kind.{Kind}
 use Rattle.nr_heap.specs.declared.value.Value.{Value}
 
 -- An object: its class, and the value of each instance field, in the order of the class's slots, so that a field is

@@ -2,15 +2,15 @@
 -- it.
 use Rattle.std.specs.Prelude.{ℕ, pos, slice_get, if◌then◌else◌}
 use Rattle.nr_optable.specs.declared.table.Letter.TheVariants as letters
-use Rattle.nr_prog.specs.declared.program.built_in.BuiltIn.TheVariants.{ClassCastException, Throwable}
-use Rattle.nr_prog.specs.declared.program.kind.Base.{Base}
-use Rattle.nr_prog.specs.declared.program.kind.Base.TheVariants as bases
-use Rattle.nr_prog.specs.declared.program.kind.Kind.{Kind}
-use Rattle.nr_prog.specs.declared.program.tables.ProgramTables.{ProgramTables}
-use Rattle.nr_prog.specs.BuiltIns.{built_in}
-use Rattle.nr_prog.specs.Kinds.{class_kind, is_array, is_reference, class_in}
-use Rattle.nr_prog.specs.Slots.{slots_of}
-use Rattle.nr_prog.specs.Subtypes.{is_sub}
+use Rattle.nr_linked.specs.declared.program.built_in.BuiltIn.TheVariants.{ClassCastException, Throwable}
+use Rattle.nr_linked.specs.declared.program.kind.Base.{Base}
+use Rattle.nr_linked.specs.declared.program.kind.Base.TheVariants as bases
+use Rattle.nr_linked.specs.declared.program.kind.Kind.{Kind}
+use Rattle.nr_linked.specs.declared.program.tables.ProgramTables.{ProgramTables}
+use Rattle.nr_linked.specs.BuiltIns.{built_in}
+use Rattle.nr_linked.specs.Kinds.{class_kind, is_array, is_reference, class_in}
+use Rattle.nr_linked.specs.Slots.{slots_of}
+use Rattle.nr_linked.specs.Subtypes.{is_sub}
 use Rattle.nr_heap.specs.Scripts.{PlainInt, Script, Throw, Stuck, Push, PopInt, Drop, AskNull, AskKind, ReadSlot, WriteSlot}
 use Rattle.nr_heap.specs.Throws.{make_object, throw_new, not_null, typed, with_found, which}
 use Rattle.nr_heap.specs.ArrayRules.{narrowed}

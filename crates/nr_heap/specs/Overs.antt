@@ -1,6 +1,6 @@
 -- The same state with other frames below and other output before it.
 use Rattle.std.specs.Prelude.{ℕ, List, ◌++◌, Option, Some, None}
-use Rattle.nr_prog.specs.declared.program.tables.ProgramTables.{ProgramTables}
+use Rattle.nr_linked.specs.declared.program.tables.ProgramTables.{ProgramTables}
 use Rattle.nr_heap.specs.States.{Frame, Control, Running, Returned, Thrown, State}
 use Rattle.nr_heap.specs.Steps.{given}
 

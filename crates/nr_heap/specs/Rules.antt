@@ -10,12 +10,12 @@ use Rattle.nr_optable.specs.declared.table.Letter.{Letter}
 use Rattle.nr_optable.specs.declared.table.Letter.TheVariants as letters
 use Rattle.nr_prog.specs.declared.body.instruction.Args.{Args}
 use Rattle.nr_prog.specs.declared.body.instruction.Args.TheVariants as args
-use Rattle.nr_prog.specs.declared.program.kind.Kind.{Kind}
-use Rattle.nr_prog.specs.declared.program.tables.MethodInfo.{MethodInfo}
-use Rattle.nr_prog.specs.declared.program.tables.ProgramTables.{ProgramTables}
-use Rattle.nr_prog.specs.declared.program.tables.Resolved.{Resolved}
-use Rattle.nr_prog.specs.declared.program.tables.Resolved.TheVariants as resolved
-use Rattle.nr_prog.specs.Sites.{Site}
+use Rattle.nr_linked.specs.declared.program.kind.Kind.{Kind}
+use Rattle.nr_linked.specs.declared.program.tables.MethodInfo.{MethodInfo}
+use Rattle.nr_linked.specs.declared.program.tables.ProgramTables.{ProgramTables}
+use Rattle.nr_linked.specs.declared.program.tables.Resolved.{Resolved}
+use Rattle.nr_linked.specs.declared.program.tables.Resolved.TheVariants as resolved
+use Rattle.nr_linked.specs.Sites.{Site}
 use Rattle.nr_heap.specs.Scripts.{Script, GoTo, Return, ReturnTop, Stuck, Push, PlainNull}
 use Rattle.nr_heap.specs.Throws.{typed, onward, with_found}
 use Rattle.nr_heap.specs.ValueRules.{small_constant, pool_constant, first_load, first_store, local_of, load, store, increment, drop_top, dup, dup_x1, dup_x2, dup2, dup2_x1, dup2_x2, swap, two_operands, division, negation, shift, conversion, comparison, test_int, test_two, test_references, table_switch, lookup_switch}

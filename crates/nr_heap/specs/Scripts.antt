@@ -3,7 +3,7 @@
 -- name. (The project's own way to write the rules of the JVM Specification, 6.5.)
 use Rattle.std.specs.Prelude.{◌≡◌, ℕ, zero, suc, ◌<◌, ℤ, Bool, true, false, List, [], ◌∷◌, ◌++◌, Option, Some, None, IsSomeAnd, length, map, slice_get, slice_set, nat_eq}
 use Rattle.std.specs.FinMap.{get, insert}
-use Rattle.nr_prog.specs.declared.program.kind.Kind.{Kind}
+use Rattle.nr_linked.specs.declared.program.kind.Kind.{Kind}
 use Rattle.nr_heap.specs.declared.value.Value.{Value}
 use Rattle.nr_heap.specs.declared.value.Value.TheVariants.{Int, Long, Null, Ref}
 use Rattle.nr_heap.specs.Heaps.{Obj, Heap}

@@ -2,15 +2,15 @@
 use Rattle.std.specs.Prelude.{ℕ, ℤ, pos, negsuc, Bool, List, map, Option, nat_lt, if◌then◌else◌}
 use Rattle.nr_optable.specs.declared.table.Letter.{Letter}
 use Rattle.nr_optable.specs.declared.table.Letter.TheVariants as letters
-use Rattle.nr_prog.specs.declared.program.built_in.BuiltIn.{BuiltIn}
-use Rattle.nr_prog.specs.declared.program.built_in.BuiltIn.TheVariants.{NullPointerException, ArrayIndexOutOfBoundsException}
-use Rattle.nr_prog.specs.declared.program.kind.Base.{Base}
-use Rattle.nr_prog.specs.declared.program.kind.Base.TheVariants as bases
-use Rattle.nr_prog.specs.declared.program.kind.Kind.{Kind}
-use Rattle.nr_prog.specs.declared.program.tables.ProgramTables.{ProgramTables}
-use Rattle.nr_prog.specs.BuiltIns.{built_in}
-use Rattle.nr_prog.specs.Kinds.{class_kind, is_reference}
-use Rattle.nr_prog.specs.Slots.{slots_of}
+use Rattle.nr_linked.specs.declared.program.built_in.BuiltIn.{BuiltIn}
+use Rattle.nr_linked.specs.declared.program.built_in.BuiltIn.TheVariants.{NullPointerException, ArrayIndexOutOfBoundsException}
+use Rattle.nr_linked.specs.declared.program.kind.Base.{Base}
+use Rattle.nr_linked.specs.declared.program.kind.Base.TheVariants as bases
+use Rattle.nr_linked.specs.declared.program.kind.Kind.{Kind}
+use Rattle.nr_linked.specs.declared.program.tables.ProgramTables.{ProgramTables}
+use Rattle.nr_linked.specs.BuiltIns.{built_in}
+use Rattle.nr_linked.specs.Kinds.{class_kind, is_reference}
+use Rattle.nr_linked.specs.Slots.{slots_of}
 use Rattle.nr_heap.specs.Heaps.{on_some}
 use Rattle.nr_heap.specs.Scripts.{Plain, PlainInt, PlainLong, PlainNull, Script, GoTo, Throw, Stuck, Push, PopInt, PopLong, AskNull, Make}
 

@@ -9,10 +9,10 @@ use Rattle.nr_optable.specs.Arithmetic.{add, negate, compare}
 use Rattle.nr_optable.specs.Operations.{int_operation, long_operation, int_division, long_division, int_shift, long_shift, int_narrowing, zero_condition, pair_condition}
 use Rattle.nr_prog.specs.declared.body.instruction.Args.{Args}
 use Rattle.nr_prog.specs.declared.body.instruction.Args.TheVariants.{Empty, Local, Num}
-use Rattle.nr_prog.specs.declared.program.built_in.BuiltIn.TheVariants.{ArithmeticException}
-use Rattle.nr_prog.specs.declared.program.tables.ProgramTables.{ProgramTables}
-use Rattle.nr_prog.specs.declared.program.tables.Resolved.{Resolved}
-use Rattle.nr_prog.specs.declared.program.tables.Resolved.TheVariants as resolved
+use Rattle.nr_linked.specs.declared.program.built_in.BuiltIn.TheVariants.{ArithmeticException}
+use Rattle.nr_linked.specs.declared.program.tables.ProgramTables.{ProgramTables}
+use Rattle.nr_linked.specs.declared.program.tables.Resolved.{Resolved}
+use Rattle.nr_linked.specs.declared.program.tables.Resolved.TheVariants as resolved
 use Rattle.nr_heap.specs.Heaps.{on_some}
 use Rattle.nr_heap.specs.Scripts.{PlainInt, PlainLong, Script, GoTo, Stuck, Push, PopInt, PopLong, Load, Store, Pick, Drop, AskLong, AskNull, AskSame}
 use Rattle.nr_heap.specs.Throws.{throw_new, typed, with_found}

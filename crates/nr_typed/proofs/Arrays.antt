@@ -2,22 +2,22 @@
 use Rattle.std.proofs.Common.{◌≡◌, ℕ, zero, suc, ◌<◌, ◌≤◌, List, ◌∷◌, length, refl, sym, ap, subst, ◌∙◌, Bool, arith, T, nat_lt}
 use Rattle.std.specs.Prelude.{ℤ, pos, negsuc, Option, Some, None, slice_get, replicate}
 use Rattle.std.proofs.Math.Facts.{ltb_yes}
-use Rattle.nr_prog.specs.declared.program.built_in.BuiltIn.TheVariants as built_ins
-use Rattle.nr_prog.specs.declared.program.kind.Base.{Base}
-use Rattle.nr_prog.specs.declared.program.kind.Base.TheVariants as bases
-use Rattle.nr_prog.specs.declared.program.kind.Kind.{Kind}
-use Rattle.nr_prog.specs.declared.program.tables.MethodInfo.{MethodInfo}
-use Rattle.nr_prog.specs.declared.program.tables.ProgramTables.{ProgramTables}
-use Rattle.nr_prog.specs.declared.program.types.VType.{VType}
-use Rattle.nr_prog.specs.declared.program.types.VType.TheVariants as types
-use Rattle.nr_prog.specs.declared.typing.fault.Wanted.TheVariants as wanted
-use Rattle.nr_prog.specs.Kinds.{is_array, element_of, array_of}
-use Rattle.nr_prog.specs.Sites.{Site}
-use Rattle.nr_prog.specs.Subtypes.{is_assignable, is_sub}
-use Rattle.nr_prog.specs.TypingFrames.{TypeFrame, is_initialised, is_long}
-use Rattle.nr_prog.specs.TypingChecks.{Leaves, take_int, take_ints, take_that, take_reference, leaves_operands}
-use Rattle.nr_prog.specs.TypingArrays.{Elements, Of, References, is_base, is_element, is_array_with, wanted_array, take_array, loaded_type, is_any_array, length_rule, made_of_counts}
-use Rattle.nr_prog.specs.TypingFacts.{TypingFacts}
+use Rattle.nr_linked.specs.declared.program.built_in.BuiltIn.TheVariants as built_ins
+use Rattle.nr_linked.specs.declared.program.kind.Base.{Base}
+use Rattle.nr_linked.specs.declared.program.kind.Base.TheVariants as bases
+use Rattle.nr_linked.specs.declared.program.kind.Kind.{Kind}
+use Rattle.nr_linked.specs.declared.program.tables.MethodInfo.{MethodInfo}
+use Rattle.nr_linked.specs.declared.program.tables.ProgramTables.{ProgramTables}
+use Rattle.nr_linked.specs.declared.program.types.VType.{VType}
+use Rattle.nr_linked.specs.declared.program.types.VType.TheVariants as types
+use Rattle.nr_linked.specs.declared.typing.fault.Wanted.TheVariants as wanted
+use Rattle.nr_linked.specs.Kinds.{is_array, element_of, array_of}
+use Rattle.nr_linked.specs.Sites.{Site}
+use Rattle.nr_linked.specs.Subtypes.{is_assignable, is_sub}
+use Rattle.nr_linked.specs.TypingFrames.{TypeFrame, is_initialised, is_long}
+use Rattle.nr_linked.specs.TypingChecks.{Leaves, take_int, take_ints, take_that, take_reference, leaves_operands}
+use Rattle.nr_linked.specs.TypingArrays.{Elements, Of, References, is_base, is_element, is_array_with, wanted_array, take_array, loaded_type, is_any_array, length_rule, made_of_counts}
+use Rattle.nr_linked.specs.TypingFacts.{TypingFacts}
 use Rattle.nr_heap.specs.declared.value.Value.TheVariants.{Int, Long}
 use Rattle.nr_heap.specs.Heaps.{Heap}
 use Rattle.nr_heap.specs.Scripts.{Plain, plain, PlainInt, PlainLong, Script, Push, PopInt, PopLong, Pick, Drop, AskKind, ReadSlot, WriteSlot, Within, Ending}

@@ -2,16 +2,16 @@
 use Rattle.std.proofs.Common.{◌≡◌, ℕ, zero, suc, ◌⊎◌, refl, sym, subst, inl, inr, Bool, true, false, arith, T, nat_lt}
 use Rattle.std.specs.Prelude.{IsTrue, ◌||◌, ◌&&◌, ◌==◌}
 use Rattle.std.proofs.Math.Facts.{eqb_yes}
-use Rattle.nr_prog.specs.declared.program.built_in.BuiltIn.TheVariants as built_ins
-use Rattle.nr_prog.specs.declared.program.kind.Base.{Base}
-use Rattle.nr_prog.specs.declared.program.kind.Base.TheVariants.{Bool as BoolBase, Byte, Char, Short, Int, Long, Object}
-use Rattle.nr_prog.specs.declared.program.kind.Kind.{Kind}
-use Rattle.nr_prog.specs.declared.program.tables.ProgramTables.{ProgramTables}
-use Rattle.nr_prog.specs.Kinds.{is_same_primitive, is_reference, is_array, class_kind}
-use Rattle.nr_prog.specs.BuiltIns.{built_in}
-use Rattle.nr_prog.specs.Programs.{is_interface}
-use Rattle.nr_prog.specs.Subtypes.{by_components, is_above, is_base_sub, is_above_arrays, is_sub, admits_any, is_base_assignable, admits_arrays, is_assignable}
-use Rattle.nr_prog.specs.TypingFacts.{TypingFacts}
+use Rattle.nr_linked.specs.declared.program.built_in.BuiltIn.TheVariants as built_ins
+use Rattle.nr_linked.specs.declared.program.kind.Base.{Base}
+use Rattle.nr_linked.specs.declared.program.kind.Base.TheVariants.{Bool as BoolBase, Byte, Char, Short, Int, Long, Object}
+use Rattle.nr_linked.specs.declared.program.kind.Kind.{Kind}
+use Rattle.nr_linked.specs.declared.program.tables.ProgramTables.{ProgramTables}
+use Rattle.nr_linked.specs.Kinds.{is_same_primitive, is_reference, is_array, class_kind}
+use Rattle.nr_linked.specs.BuiltIns.{built_in}
+use Rattle.nr_linked.specs.Programs.{is_interface}
+use Rattle.nr_linked.specs.Subtypes.{by_components, is_above, is_base_sub, is_above_arrays, is_sub, admits_any, is_base_assignable, admits_arrays, is_assignable}
+use Rattle.nr_linked.specs.TypingFacts.{TypingFacts}
 
 -- ---- tests
 

@@ -5,19 +5,19 @@ use Rattle.std.proofs.Math.Facts.{eqb_yes}
 use Rattle.std.specs.FinMap.{get}
 use Rattle.nr_optable.specs.declared.table.Letter.{Letter}
 use Rattle.nr_optable.specs.declared.table.Letter.TheVariants as letters
-use Rattle.nr_prog.specs.declared.program.kind.Kind.{Kind}
-use Rattle.nr_prog.specs.declared.program.tables.MethodInfo.{MethodInfo}
-use Rattle.nr_prog.specs.declared.program.tables.ProgramTables.{ProgramTables}
-use Rattle.nr_prog.specs.declared.program.types.VType.{VType}
-use Rattle.nr_prog.specs.declared.program.types.VType.TheVariants as types
-use Rattle.nr_prog.specs.Kinds.{class_kind, is_reference}
-use Rattle.nr_prog.specs.Subtypes.{is_assignable, is_above}
-use Rattle.nr_prog.specs.TypingFrames.{of_kind, is_type_assignable, is_operand_assignable, locals_fit, operands_fit, size_of, total_size}
-use Rattle.nr_prog.specs.TypingChecks.{is_letter}
-use Rattle.nr_prog.specs.TypingLocals.{local_type, after, before, put_word, put}
-use Rattle.nr_prog.specs.TypingObjects.{is_made_at, forgotten}
-use Rattle.nr_prog.specs.TypingCalls.{class_made_at, is_same_uninit, initialised}
-use Rattle.nr_prog.specs.TypingFacts.{TypingFacts}
+use Rattle.nr_linked.specs.declared.program.kind.Kind.{Kind}
+use Rattle.nr_linked.specs.declared.program.tables.MethodInfo.{MethodInfo}
+use Rattle.nr_linked.specs.declared.program.tables.ProgramTables.{ProgramTables}
+use Rattle.nr_linked.specs.declared.program.types.VType.{VType}
+use Rattle.nr_linked.specs.declared.program.types.VType.TheVariants as types
+use Rattle.nr_linked.specs.Kinds.{class_kind, is_reference}
+use Rattle.nr_linked.specs.Subtypes.{is_assignable, is_above}
+use Rattle.nr_linked.specs.TypingFrames.{of_kind, is_type_assignable, is_operand_assignable, locals_fit, operands_fit, size_of, total_size}
+use Rattle.nr_linked.specs.TypingChecks.{is_letter}
+use Rattle.nr_linked.specs.TypingLocals.{local_type, after, before, put_word, put}
+use Rattle.nr_linked.specs.TypingObjects.{is_made_at, forgotten}
+use Rattle.nr_linked.specs.TypingCalls.{class_made_at, is_same_uninit, initialised}
+use Rattle.nr_linked.specs.TypingFacts.{TypingFacts}
 use Rattle.nr_heap.specs.declared.value.Value.{Value}
 use Rattle.nr_heap.specs.declared.value.Value.TheVariants.{Int, Long, Null, Ref}
 use Rattle.nr_heap.specs.Heaps.{Obj, Heap, on_some}

@@ -6,26 +6,26 @@ use Rattle.std.proofs.lemmas.List.{length-reverse}
 use Rattle.std.proofs.Math.Facts.{eqb_yes, yes_eqb}
 use Rattle.nr_optable.specs.declared.table.Family.TheVariants.{F32}
 use Rattle.nr_prog.specs.declared.body.whole.Body.{Body}
-use Rattle.nr_prog.specs.declared.program.built_in.BuiltIn.TheVariants as built_ins
-use Rattle.nr_prog.specs.declared.program.kind.Base.{Base}
-use Rattle.nr_prog.specs.declared.program.kind.Base.TheVariants as bases
-use Rattle.nr_prog.specs.declared.program.kind.Kind.{Kind}
-use Rattle.nr_prog.specs.declared.program.tables.MethodInfo.{MethodInfo}
-use Rattle.nr_prog.specs.declared.program.tables.ProgramTables.{ProgramTables}
-use Rattle.nr_prog.specs.declared.program.tables.Resolved.TheVariants as resolved
-use Rattle.nr_prog.specs.declared.program.types.VType.{VType}
-use Rattle.nr_prog.specs.Kinds.{class_kind, class_in}
+use Rattle.nr_linked.specs.declared.program.built_in.BuiltIn.TheVariants as built_ins
+use Rattle.nr_linked.specs.declared.program.kind.Base.{Base}
+use Rattle.nr_linked.specs.declared.program.kind.Base.TheVariants as bases
+use Rattle.nr_linked.specs.declared.program.kind.Kind.{Kind}
+use Rattle.nr_linked.specs.declared.program.tables.MethodInfo.{MethodInfo}
+use Rattle.nr_linked.specs.declared.program.tables.ProgramTables.{ProgramTables}
+use Rattle.nr_linked.specs.declared.program.tables.Resolved.TheVariants as resolved
+use Rattle.nr_linked.specs.declared.program.types.VType.{VType}
+use Rattle.nr_linked.specs.Kinds.{class_kind, class_in}
 use Rattle.nr_prog.specs.Members.{is_static}
-use Rattle.nr_prog.specs.BuiltIns.{built_in}
-use Rattle.nr_prog.specs.Programs.{method_at, super_of}
-use Rattle.nr_prog.specs.Linked.{is_loaded}
-use Rattle.nr_prog.specs.Selection.{is_private, selected}
-use Rattle.nr_prog.specs.Sites.{Site}
-use Rattle.nr_prog.specs.Subtypes.{admits_any, is_assignable, is_above, is_sub}
-use Rattle.nr_prog.specs.TypingFrames.{TypeFrame, of_kinds, operands_fit, is_initialiser}
-use Rattle.nr_prog.specs.TypingChecks.{Checked, Leaves}
-use Rattle.nr_prog.specs.TypingCalls.{take_arguments}
-use Rattle.nr_prog.specs.TypingFacts.{TypingFacts, CallFacts}
+use Rattle.nr_linked.specs.BuiltIns.{built_in}
+use Rattle.nr_linked.specs.Programs.{method_at, super_of}
+use Rattle.nr_linked.specs.Linked.{is_loaded}
+use Rattle.nr_linked.specs.Selection.{is_private, selected}
+use Rattle.nr_linked.specs.Sites.{Site}
+use Rattle.nr_linked.specs.Subtypes.{admits_any, is_assignable, is_above, is_sub}
+use Rattle.nr_linked.specs.TypingFrames.{TypeFrame, of_kinds, operands_fit, is_initialiser}
+use Rattle.nr_linked.specs.TypingChecks.{Checked, Leaves}
+use Rattle.nr_linked.specs.TypingCalls.{take_arguments}
+use Rattle.nr_linked.specs.TypingFacts.{TypingFacts, CallFacts}
 use Rattle.nr_heap.specs.Heaps.{Heap, on_some}
 use Rattle.nr_heap.specs.Scripts.{Script, Call, Drop, Within, Ending}
 use Rattle.nr_heap.specs.Throws.{throw_new, with_found}

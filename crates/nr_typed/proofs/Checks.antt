@@ -3,15 +3,15 @@ use Rattle.std.proofs.Common.{◌≡◌, ℕ, ◌≤◌, ◌⊎◌, inl, inr, Li
 use Rattle.std.specs.Prelude.{if◌then◌else◌}
 use Rattle.std.proofs.Math.Facts.{leb_yes}
 use Rattle.nr_optable.specs.declared.table.Letter.{Letter}
-use Rattle.nr_prog.specs.declared.program.tables.MethodInfo.{MethodInfo}
-use Rattle.nr_prog.specs.declared.program.types.VType.{VType}
-use Rattle.nr_prog.specs.declared.program.types.VType.TheVariants as types
-use Rattle.nr_prog.specs.declared.typing.fault.OpFault.{OpFault}
-use Rattle.nr_prog.specs.declared.typing.fault.Wanted.{Wanted}
-use Rattle.nr_prog.specs.declared.typing.fault.Wanted.TheVariants as wanted
-use Rattle.nr_prog.specs.TypingFrames.{TypeFrame, is_int, is_long, total_size}
-use Rattle.nr_prog.specs.TypingChecks.{Checked, Leaves, Refused, NoRule, need, take_operand, take_that, take_int, take_single, is_letter, wanted_letter, take_letters, leaves}
-use Rattle.nr_prog.specs.TypingMoves.{by_size}
+use Rattle.nr_linked.specs.declared.program.tables.MethodInfo.{MethodInfo}
+use Rattle.nr_linked.specs.declared.program.types.VType.{VType}
+use Rattle.nr_linked.specs.declared.program.types.VType.TheVariants as types
+use Rattle.nr_linked.specs.declared.typing.fault.OpFault.{OpFault}
+use Rattle.nr_linked.specs.declared.typing.fault.Wanted.{Wanted}
+use Rattle.nr_linked.specs.declared.typing.fault.Wanted.TheVariants as wanted
+use Rattle.nr_linked.specs.TypingFrames.{TypeFrame, is_int, is_long, total_size}
+use Rattle.nr_linked.specs.TypingChecks.{Checked, Leaves, Refused, NoRule, need, take_operand, take_that, take_int, take_single, is_letter, wanted_letter, take_letters, leaves}
+use Rattle.nr_linked.specs.TypingMoves.{by_size}
 
 pub int_is : (t : VType) → T (is_int t) → t ≡ types.Int
 int_is types.Int p = refl

@@ -4,19 +4,19 @@ use Rattle.std.specs.Prelude.{ℤ, Option, Some, None, slice_get, if◌then◌el
 use Rattle.std.specs.Option.{option_map_or}
 use Rattle.std.specs.Int.{w8, w16, w32, cast_unsigned}
 use Rattle.std.proofs.lemmas.Int.{SFits-int_wrap}
-use Rattle.nr_prog.specs.declared.program.kind.Base.{Base}
-use Rattle.nr_prog.specs.declared.program.kind.Base.TheVariants as bases
-use Rattle.nr_prog.specs.declared.program.kind.Kind.{Kind}
-use Rattle.nr_prog.specs.declared.program.tables.MethodInfo.{MethodInfo}
-use Rattle.nr_prog.specs.declared.program.tables.ProgramTables.{ProgramTables}
-use Rattle.nr_prog.specs.declared.program.tables.SlotInfo.{SlotInfo}
-use Rattle.nr_prog.specs.declared.program.types.VType.TheVariants as types
-use Rattle.nr_prog.specs.Kinds.{class_kind, is_reference, element_of, array_of, is_same_primitive}
-use Rattle.nr_prog.specs.Slots.{slots_of}
-use Rattle.nr_prog.specs.Subtypes.{by_components, is_above, is_sub, is_base_assignable, admits_arrays, is_assignable}
-use Rattle.nr_prog.specs.TypingFrames.{of_base}
-use Rattle.nr_prog.specs.TypingArrays.{Elements, Of, Bytes, References, is_base, is_element, is_array_with, loaded_type}
-use Rattle.nr_prog.specs.TypingFacts.{TypingFacts}
+use Rattle.nr_linked.specs.declared.program.kind.Base.{Base}
+use Rattle.nr_linked.specs.declared.program.kind.Base.TheVariants as bases
+use Rattle.nr_linked.specs.declared.program.kind.Kind.{Kind}
+use Rattle.nr_linked.specs.declared.program.tables.MethodInfo.{MethodInfo}
+use Rattle.nr_linked.specs.declared.program.tables.ProgramTables.{ProgramTables}
+use Rattle.nr_linked.specs.declared.program.tables.SlotInfo.{SlotInfo}
+use Rattle.nr_linked.specs.declared.program.types.VType.TheVariants as types
+use Rattle.nr_linked.specs.Kinds.{class_kind, is_reference, element_of, array_of, is_same_primitive}
+use Rattle.nr_linked.specs.Slots.{slots_of}
+use Rattle.nr_linked.specs.Subtypes.{by_components, is_above, is_sub, is_base_assignable, admits_arrays, is_assignable}
+use Rattle.nr_linked.specs.TypingFrames.{of_base}
+use Rattle.nr_linked.specs.TypingArrays.{Elements, Of, Bytes, References, is_base, is_element, is_array_with, loaded_type}
+use Rattle.nr_linked.specs.TypingFacts.{TypingFacts}
 use Rattle.nr_heap.specs.declared.value.Value.TheVariants.{Int}
 use Rattle.nr_heap.specs.Heaps.{Heap, on_some}
 use Rattle.nr_heap.specs.ArrayRules.{narrowed}

@@ -2,15 +2,15 @@
 use Rattle.std.proofs.Common.{ℕ, zero, suc, List, [], ◌∷◌, sym, subst, T}
 use Rattle.std.specs.Prelude.{Option, Some, None, IsSomeAnd, drop}
 use Rattle.std.specs.FinMap.{get}
-use Rattle.nr_prog.specs.declared.program.kind.Kind.{Kind}
-use Rattle.nr_prog.specs.declared.program.tables.MethodInfo.{MethodInfo}
-use Rattle.nr_prog.specs.declared.program.tables.ProgramTables.{ProgramTables}
-use Rattle.nr_prog.specs.declared.program.types.VType.{VType}
-use Rattle.nr_prog.specs.declared.program.types.VType.TheVariants as types
-use Rattle.nr_prog.specs.Kinds.{class_kind}
-use Rattle.nr_prog.specs.Subtypes.{is_assignable}
-use Rattle.nr_prog.specs.TypingFrames.{TypeFrame}
-use Rattle.nr_prog.specs.TypingCalls.{class_made_at}
+use Rattle.nr_linked.specs.declared.program.kind.Kind.{Kind}
+use Rattle.nr_linked.specs.declared.program.tables.MethodInfo.{MethodInfo}
+use Rattle.nr_linked.specs.declared.program.tables.ProgramTables.{ProgramTables}
+use Rattle.nr_linked.specs.declared.program.types.VType.{VType}
+use Rattle.nr_linked.specs.declared.program.types.VType.TheVariants as types
+use Rattle.nr_linked.specs.Kinds.{class_kind}
+use Rattle.nr_linked.specs.Subtypes.{is_assignable}
+use Rattle.nr_linked.specs.TypingFrames.{TypeFrame}
+use Rattle.nr_linked.specs.TypingCalls.{class_made_at}
 use Rattle.nr_heap.specs.declared.value.Value.{Value}
 use Rattle.nr_heap.specs.declared.value.Value.TheVariants.{Int, Long, Null, Ref}
 use Rattle.nr_heap.specs.Heaps.{Heap, on_some}

@@ -4,22 +4,22 @@ use Rattle.std.specs.Prelude.{Option, Some, None, IsTrue, is_some, is_none, slic
 use Rattle.std.specs.List.{list_any, list_all}
 use Rattle.std.specs.Option.{option_map_or, option_and_then}
 use Rattle.std.proofs.Math.Facts.{eqb_yes}
-use Rattle.nr_prog.specs.declared.program.kind.Kind.{Kind}
-use Rattle.nr_prog.specs.declared.program.tables.ClassInfo.{ClassInfo}
-use Rattle.nr_prog.specs.declared.program.tables.MethodInfo.{MethodInfo}
-use Rattle.nr_prog.specs.declared.program.tables.SlotInfo.{SlotInfo}
+use Rattle.nr_linked.specs.declared.program.kind.Kind.{Kind}
+use Rattle.nr_linked.specs.declared.program.tables.ClassInfo.{ClassInfo}
+use Rattle.nr_linked.specs.declared.program.tables.MethodInfo.{MethodInfo}
+use Rattle.nr_linked.specs.declared.program.tables.SlotInfo.{SlotInfo}
 use Rattle.nr_prog.specs.Members.{is_abstract, is_static}
-use Rattle.nr_prog.specs.BuiltIns.{built_in_class}
-use Rattle.nr_prog.specs.BuiltInTables.{built_in_infos, built_in_methods, built_in_info, built_in_method}
-use Rattle.nr_prog.specs.Programs.{class_at, method_at, super_of}
-use Rattle.nr_prog.specs.Slots.{slots_of}
-use Rattle.nr_prog.specs.Selection.{is_private, selected}
-use Rattle.nr_prog.specs.Subtypes.{is_above, admits_any}
-use Rattle.nr_prog.specs.TypingFacts.{is_makeable}
+use Rattle.nr_linked.specs.BuiltIns.{built_in_class}
+use Rattle.nr_linked.specs.BuiltInTables.{built_in_infos, built_in_methods, built_in_info, built_in_method}
+use Rattle.nr_linked.specs.Programs.{class_at, method_at, super_of}
+use Rattle.nr_linked.specs.Slots.{slots_of}
+use Rattle.nr_linked.specs.Selection.{is_private, selected}
+use Rattle.nr_linked.specs.Subtypes.{is_above, admits_any}
+use Rattle.nr_linked.specs.TypingFacts.{is_makeable}
 use Rattle.nr_typed.proofs.Assigning.{holds, and_both, or_cases}
 use Rattle.nr_prog.specs.declared.body.whole.Body.{Body}
-use Rattle.nr_prog.specs.declared.program.kind.Base.TheVariants as bases
-use Rattle.nr_prog.specs.Kinds.{is_same_primitive}
+use Rattle.nr_linked.specs.declared.program.kind.Base.TheVariants as bases
+use Rattle.nr_linked.specs.Kinds.{is_same_primitive}
 use Rattle.nr_typed.specs.Example.{example, field, face}
 use Rattle.nr_typed.proofs.ExampleTyped.{none_some, some_same}
 

@@ -6,22 +6,22 @@ use Rattle.nr_optable.specs.declared.table.Row.{Row}
 use Rattle.nr_prog.specs.declared.body.instruction.Args.{Args}
 use Rattle.nr_prog.specs.declared.body.instruction.Args.TheVariants.{Empty, Pool, Dims}
 use Rattle.nr_prog.specs.declared.body.instruction.Instr.{Instr}
-use Rattle.nr_prog.specs.declared.program.kind.Kind.{Kind}
-use Rattle.nr_prog.specs.declared.program.tables.MethodInfo.{MethodInfo}
-use Rattle.nr_prog.specs.declared.program.tables.Resolved.{Resolved}
-use Rattle.nr_prog.specs.declared.program.tables.Resolved.TheVariants as resolved
+use Rattle.nr_linked.specs.declared.program.kind.Kind.{Kind}
+use Rattle.nr_linked.specs.declared.program.tables.MethodInfo.{MethodInfo}
+use Rattle.nr_linked.specs.declared.program.tables.Resolved.{Resolved}
+use Rattle.nr_linked.specs.declared.program.tables.Resolved.TheVariants as resolved
 use Rattle.nr_prog.specs.Members.{is_static}
-use Rattle.nr_prog.specs.Kinds.{class_kind}
-use Rattle.nr_prog.specs.BuiltIns.{built_in_class}
-use Rattle.nr_prog.specs.BuiltInTables.{built_in_infos, built_in_methods, built_in_info, built_in_method}
-use Rattle.nr_prog.specs.Linked.{instrs_of}
-use Rattle.nr_prog.specs.Programs.{method_at}
-use Rattle.nr_prog.specs.Selection.{is_private}
-use Rattle.nr_prog.specs.Sites.{Site, first_offset, site_among, site_at}
-use Rattle.nr_prog.specs.Subtypes.{is_above, admits_any, is_assignable}
-use Rattle.nr_prog.specs.TypingFrames.{is_initialiser}
-use Rattle.nr_prog.specs.TypingChecks.{letters_of}
-use Rattle.nr_prog.specs.TypingFacts.{is_shaped, has_constant, is_makeable, CallFacts, SiteFacts, TypingFacts}
+use Rattle.nr_linked.specs.Kinds.{class_kind}
+use Rattle.nr_linked.specs.BuiltIns.{built_in_class}
+use Rattle.nr_linked.specs.BuiltInTables.{built_in_infos, built_in_methods, built_in_info, built_in_method}
+use Rattle.nr_linked.specs.Linked.{instrs_of}
+use Rattle.nr_linked.specs.Programs.{method_at}
+use Rattle.nr_linked.specs.Selection.{is_private}
+use Rattle.nr_linked.specs.Sites.{Site, first_offset, site_among, site_at}
+use Rattle.nr_linked.specs.Subtypes.{is_above, admits_any, is_assignable}
+use Rattle.nr_linked.specs.TypingFrames.{is_initialiser}
+use Rattle.nr_linked.specs.TypingChecks.{letters_of}
+use Rattle.nr_linked.specs.TypingFacts.{is_shaped, has_constant, is_makeable, CallFacts, SiteFacts, TypingFacts}
 use Rattle.nr_typed.proofs.Assigning.{yes, holds}
 use Rattle.nr_typed.specs.Example.{example, initialiser, base_m, main, sub_m, at, aload_0, iconst_0, ireturn, return_, pop, dup, getfield, invokespecial, invokeinterface, new_}
 use Rattle.nr_typed.proofs.ExampleTyped.{none_some, some_same, AtEach, at_place, resolved_of}

@@ -5,23 +5,23 @@ use Rattle.std.specs.List.{flat_map, range_with_len}
 use Rattle.std.specs.Option.{option_map_or, option_and_then}
 use Rattle.std.proofs.Math.Facts.{eqb_yes}
 use Rattle.nr_prog.specs.declared.body.whole.Body.{Body}
-use Rattle.nr_prog.specs.declared.program.built_in.BuiltIn.{BuiltIn}
-use Rattle.nr_prog.specs.declared.program.built_in.BuiltIn.TheVariants as built_ins
-use Rattle.nr_prog.specs.declared.program.kind.Base.{Base}
-use Rattle.nr_prog.specs.declared.program.kind.Base.TheVariants as bases
-use Rattle.nr_prog.specs.declared.program.kind.Kind.{Kind}
-use Rattle.nr_prog.specs.declared.program.tables.ClassInfo.{ClassInfo}
-use Rattle.nr_prog.specs.declared.program.tables.MethodInfo.{MethodInfo}
-use Rattle.nr_prog.specs.declared.program.tables.ProgramTables.{ProgramTables}
+use Rattle.nr_linked.specs.declared.program.built_in.BuiltIn.{BuiltIn}
+use Rattle.nr_linked.specs.declared.program.built_in.BuiltIn.TheVariants as built_ins
+use Rattle.nr_linked.specs.declared.program.kind.Base.{Base}
+use Rattle.nr_linked.specs.declared.program.kind.Base.TheVariants as bases
+use Rattle.nr_linked.specs.declared.program.kind.Kind.{Kind}
+use Rattle.nr_linked.specs.declared.program.tables.ClassInfo.{ClassInfo}
+use Rattle.nr_linked.specs.declared.program.tables.MethodInfo.{MethodInfo}
+use Rattle.nr_linked.specs.declared.program.tables.ProgramTables.{ProgramTables}
 use Rattle.nr_prog.specs.Members.{is_static}
-use Rattle.nr_prog.specs.Kinds.{is_same_primitive}
-use Rattle.nr_prog.specs.BuiltIns.{built_in, built_in_class}
-use Rattle.nr_prog.specs.BuiltInTables.{built_in_infos, built_in_methods, built_in_info, built_in_method}
-use Rattle.nr_prog.specs.Programs.{class_at, method_at, methods_of, super_of, upward}
-use Rattle.nr_prog.specs.Selection.{first_selected, is_private, is_selectable, selected, with_body}
-use Rattle.nr_prog.specs.Subtypes.{is_above}
-use Rattle.nr_prog.specs.TypingFrames.{is_initialiser}
-use Rattle.nr_prog.specs.TypingFacts.{is_makeable, is_thrown, Selected, BuiltInFacts}
+use Rattle.nr_linked.specs.Kinds.{is_same_primitive}
+use Rattle.nr_linked.specs.BuiltIns.{built_in, built_in_class}
+use Rattle.nr_linked.specs.BuiltInTables.{built_in_infos, built_in_methods, built_in_info, built_in_method}
+use Rattle.nr_linked.specs.Programs.{class_at, method_at, methods_of, super_of, upward}
+use Rattle.nr_linked.specs.Selection.{first_selected, is_private, is_selectable, selected, with_body}
+use Rattle.nr_linked.specs.Subtypes.{is_above}
+use Rattle.nr_linked.specs.TypingFrames.{is_initialiser}
+use Rattle.nr_linked.specs.TypingFacts.{is_makeable, is_thrown, Selected, BuiltInFacts}
 use Rattle.nr_typed.proofs.Assigning.{yes, holds, and_both}
 use Rattle.nr_typed.specs.Example.{int_kind, example}
 use Rattle.nr_typed.proofs.ExampleTyped.{none_some, AtEach, at_place}

@@ -5,21 +5,21 @@ use Rattle.std.specs.Option.{option_map}
 use Rattle.nr_prog.specs.declared.body.instruction.Instr.{Instr}
 use Rattle.nr_prog.specs.declared.body.whole.Body.{Body}
 use Rattle.nr_prog.specs.declared.member.Handler.{Handler}
-use Rattle.nr_prog.specs.declared.program.kind.Kind.{Kind}
-use Rattle.nr_prog.specs.declared.program.tables.MethodInfo.{MethodInfo}
-use Rattle.nr_prog.specs.declared.program.tables.Resolved.{Resolved}
+use Rattle.nr_linked.specs.declared.program.kind.Kind.{Kind}
+use Rattle.nr_linked.specs.declared.program.tables.MethodInfo.{MethodInfo}
+use Rattle.nr_linked.specs.declared.program.tables.Resolved.{Resolved}
 use Rattle.std.proofs.Math.Facts.{eqb_yes}
-use Rattle.nr_prog.specs.Kinds.{class_kind}
-use Rattle.nr_prog.specs.declared.program.types.VFrame.{VFrame}
-use Rattle.nr_prog.specs.declared.program.types.VType.TheVariants.{Int, UninitThis, Uninit, Class}
-use Rattle.nr_prog.specs.BuiltIns.{built_in_class}
-use Rattle.nr_prog.specs.BuiltInTables.{built_in_infos, built_in_methods, built_in_info, built_in_method}
-use Rattle.nr_prog.specs.Linked.{instrs_of}
-use Rattle.nr_prog.specs.Sites.{Site, first_offset, site_among}
-use Rattle.nr_prog.specs.TypingFrames.{TypeFrame, frame_fits}
-use Rattle.nr_prog.specs.TypingChecks.{Leaves}
-use Rattle.nr_prog.specs.TypingRules.{type_op}
-use Rattle.nr_prog.specs.WellTyped.{targets_of, falls_through, map_at, mapped_frame, frame_among, frame_at, Onward, catchers, HandlerFits, SiteTyped, MethodTyped, WellTyped}
+use Rattle.nr_linked.specs.Kinds.{class_kind}
+use Rattle.nr_linked.specs.declared.program.types.VFrame.{VFrame}
+use Rattle.nr_linked.specs.declared.program.types.VType.TheVariants.{Int, UninitThis, Uninit, Class}
+use Rattle.nr_linked.specs.BuiltIns.{built_in_class}
+use Rattle.nr_linked.specs.BuiltInTables.{built_in_infos, built_in_methods, built_in_info, built_in_method}
+use Rattle.nr_linked.specs.Linked.{instrs_of}
+use Rattle.nr_linked.specs.Sites.{Site, first_offset, site_among}
+use Rattle.nr_linked.specs.TypingFrames.{TypeFrame, frame_fits}
+use Rattle.nr_linked.specs.TypingChecks.{Leaves}
+use Rattle.nr_linked.specs.TypingRules.{type_op}
+use Rattle.nr_linked.specs.WellTyped.{targets_of, falls_through, map_at, mapped_frame, frame_among, frame_at, Onward, catchers, HandlerFits, SiteTyped, MethodTyped, WellTyped}
 use Rattle.nr_typed.specs.Example.{example, base_m, main, sub_m, initialiser, frames, types, this_of, throwable}
 
 pub none_some : {X : Type 0} {x : X} → ◌≡◌ {A = Option X} None (Some x) → ⊥

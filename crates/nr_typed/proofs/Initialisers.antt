@@ -5,23 +5,23 @@ use Rattle.std.specs.Option.{option_map_or, option_and_then}
 use Rattle.std.proofs.Math.Facts.{eqb_yes}
 use Rattle.nr_optable.specs.declared.table.Family.{Family}
 use Rattle.nr_optable.specs.declared.table.Family.TheVariants.{F32, F33}
-use Rattle.nr_prog.specs.declared.program.kind.Kind.{Kind}
-use Rattle.nr_prog.specs.declared.program.tables.MethodInfo.{MethodInfo}
-use Rattle.nr_prog.specs.declared.program.tables.ProgramTables.{ProgramTables}
-use Rattle.nr_prog.specs.declared.program.tables.Resolved.{Resolved}
-use Rattle.nr_prog.specs.declared.program.tables.Resolved.TheVariants as resolved
-use Rattle.nr_prog.specs.declared.program.types.VType.{VType}
-use Rattle.nr_prog.specs.declared.program.types.VType.TheVariants as types
-use Rattle.nr_prog.specs.Kinds.{class_kind, class_in, is_array}
+use Rattle.nr_linked.specs.declared.program.kind.Kind.{Kind}
+use Rattle.nr_linked.specs.declared.program.tables.MethodInfo.{MethodInfo}
+use Rattle.nr_linked.specs.declared.program.tables.ProgramTables.{ProgramTables}
+use Rattle.nr_linked.specs.declared.program.tables.Resolved.{Resolved}
+use Rattle.nr_linked.specs.declared.program.tables.Resolved.TheVariants as resolved
+use Rattle.nr_linked.specs.declared.program.types.VType.{VType}
+use Rattle.nr_linked.specs.declared.program.types.VType.TheVariants as types
+use Rattle.nr_linked.specs.Kinds.{class_kind, class_in, is_array}
 use Rattle.nr_prog.specs.Members.{is_static}
-use Rattle.nr_prog.specs.Programs.{method_at, super_of}
-use Rattle.nr_prog.specs.Selection.{is_private, is_called}
-use Rattle.nr_prog.specs.Sites.{Site, site_at}
-use Rattle.nr_prog.specs.Subtypes.{is_assignable, is_above}
-use Rattle.nr_prog.specs.TypingFrames.{TypeFrame, is_initialiser}
-use Rattle.nr_prog.specs.TypingChecks.{Leaves, leaves}
-use Rattle.nr_prog.specs.TypingCalls.{class_made, class_made_at, is_init_receiver, initialised_class, after_init}
-use Rattle.nr_prog.specs.TypingFacts.{TypingFacts, CallFacts, SiteFacts}
+use Rattle.nr_linked.specs.Programs.{method_at, super_of}
+use Rattle.nr_linked.specs.Selection.{is_private, is_called}
+use Rattle.nr_linked.specs.Sites.{Site, site_at}
+use Rattle.nr_linked.specs.Subtypes.{is_assignable, is_above}
+use Rattle.nr_linked.specs.TypingFrames.{TypeFrame, is_initialiser}
+use Rattle.nr_linked.specs.TypingChecks.{Leaves, leaves}
+use Rattle.nr_linked.specs.TypingCalls.{class_made, class_made_at, is_init_receiver, initialised_class, after_init}
+use Rattle.nr_linked.specs.TypingFacts.{TypingFacts, CallFacts, SiteFacts}
 use Rattle.nr_heap.specs.Heaps.{Heap, on_some}
 use Rattle.nr_heap.specs.Scripts.{Script, Drop, Within, Ending}
 use Rattle.nr_heap.specs.Throws.{with_found}
@@ -114,9 +114,9 @@ module _ (P : ProgramTables) (facts : TypingFacts P) (own_number : ℕ) (own : M
         (a : Arguments P callee F.operands) where
       pub init_fits : (k : Script) → Goes P own F G h0 Q k → CallFacts P own.«class» s.instr.row.code owner callee → is_static callee.flags ≡ false → T (is_initialiser callee) → (t : VType) (us : List VType) → a.rest ≡ t ∷ us
           → T (is_init_receiver P own owner t) → leaves own (after_init own owner t us F) ≡ Leaves G → Fits P h0 Q (invoke_special P own.«class» named k) LT (operand_tys own (a.args ++ (t ∷ us)))
-      init_fits k g facts_of instance init t us rest p e = subst (λ o. Fits P h0 Q (with_found o (λ i. on_receiver P i (λ kind. if is_initialiser i || is_private i.flags || i.«class» == own.«class» then call P named k else call_selected P (option_and_then (Rattle.nr_prog.specs.Selection.selected P named) (super_of P own.«class»))))) LT (operand_tys own (a.args ++ (t ∷ us)))) (sym is_callee)
-          (receiver P facts own F G h0 Q s owed callee (λ kind. if is_initialiser callee || is_private callee.flags || callee.«class» == own.«class» then call P named k else call_selected P (option_and_then (Rattle.nr_prog.specs.Selection.selected P named) (super_of P own.«class»))) a.args us t owner a.count (init_receives owner t p) (λ x n q.
-          if_fits P facts own F G h0 Q (is_initialiser callee || is_private callee.flags || callee.«class» == own.«class») (call P named k) (call_selected P (option_and_then (Rattle.nr_prog.specs.Selection.selected P named) (super_of P own.«class»))) LT (operand_tys own a.args ++ (Exact x n ∷ operand_tys own us))
+      init_fits k g facts_of instance init t us rest p e = subst (λ o. Fits P h0 Q (with_found o (λ i. on_receiver P i (λ kind. if is_initialiser i || is_private i.flags || i.«class» == own.«class» then call P named k else call_selected P (option_and_then (Rattle.nr_linked.specs.Selection.selected P named) (super_of P own.«class»))))) LT (operand_tys own (a.args ++ (t ∷ us)))) (sym is_callee)
+          (receiver P facts own F G h0 Q s owed callee (λ kind. if is_initialiser callee || is_private callee.flags || callee.«class» == own.«class» then call P named k else call_selected P (option_and_then (Rattle.nr_linked.specs.Selection.selected P named) (super_of P own.«class»))) a.args us t owner a.count (init_receives owner t p) (λ x n q.
+          if_fits P facts own F G h0 Q (is_initialiser callee || is_private callee.flags || callee.«class» == own.«class») (call P named k) (call_selected P (option_and_then (Rattle.nr_linked.specs.Selection.selected P named) (super_of P own.«class»))) LT (operand_tys own a.args ++ (Exact x n ∷ operand_tys own us))
           (λ z. by_body P facts own F G h0 Q s owed fam named owner rs callee is_callee a k (operand_tys own a.args ++ (Exact x n ∷ operand_tys own us))
           (λ body is_body. call_object P facts own F G h0 Q s owed fam named owner rs callee is_callee a instance t us rest named callee body is_callee is_body (same_self P facts own F G h0 Q s owed fam named owner rs callee is_callee a instance t us rest) x n
           (subst (λ c. T (is_assignable P x (class_kind c))) (sym is_owner) q))

@@ -8,20 +8,20 @@ use Rattle.nr_optable.specs.declared.table.Row.{Row}
 use Rattle.nr_optable.specs.declared.table.Shape.TheVariants as shapes
 use Rattle.nr_optable.specs.declared.table.Letter.TheVariants as letters
 use Rattle.nr_prog.specs.declared.body.instruction.Args.{Args}
-use Rattle.nr_prog.specs.declared.program.kind.Base.TheVariants as bases
-use Rattle.nr_prog.specs.declared.program.tables.MethodInfo.{MethodInfo}
-use Rattle.nr_prog.specs.declared.program.tables.ProgramTables.{ProgramTables}
-use Rattle.nr_prog.specs.declared.program.tables.Resolved.{Resolved}
-use Rattle.nr_prog.specs.declared.program.types.VType.TheVariants as types
-use Rattle.nr_prog.specs.Kinds.{is_reference}
-use Rattle.nr_prog.specs.Programs.{method_at}
-use Rattle.nr_prog.specs.Sites.{Site, site_at}
-use Rattle.nr_prog.specs.Subtypes.{is_above}
-use Rattle.nr_prog.specs.TypingFrames.{TypeFrame}
-use Rattle.nr_prog.specs.TypingChecks.{Leaves}
-use Rattle.nr_prog.specs.TypingArrays.{Of, Bytes, References}
-use Rattle.nr_prog.specs.TypingRules.{type_op}
-use Rattle.nr_prog.specs.TypingFacts.{TypingFacts, SiteFacts}
+use Rattle.nr_linked.specs.declared.program.kind.Base.TheVariants as bases
+use Rattle.nr_linked.specs.declared.program.tables.MethodInfo.{MethodInfo}
+use Rattle.nr_linked.specs.declared.program.tables.ProgramTables.{ProgramTables}
+use Rattle.nr_linked.specs.declared.program.tables.Resolved.{Resolved}
+use Rattle.nr_linked.specs.declared.program.types.VType.TheVariants as types
+use Rattle.nr_linked.specs.Kinds.{is_reference}
+use Rattle.nr_linked.specs.Programs.{method_at}
+use Rattle.nr_linked.specs.Sites.{Site, site_at}
+use Rattle.nr_linked.specs.Subtypes.{is_above}
+use Rattle.nr_linked.specs.TypingFrames.{TypeFrame}
+use Rattle.nr_linked.specs.TypingChecks.{Leaves}
+use Rattle.nr_linked.specs.TypingArrays.{Of, Bytes, References}
+use Rattle.nr_linked.specs.TypingRules.{type_op}
+use Rattle.nr_linked.specs.TypingFacts.{TypingFacts, SiteFacts}
 use Rattle.nr_heap.specs.Heaps.{Heap}
 use Rattle.nr_heap.specs.Scripts.{PlainInt, PlainLong, PlainNull, GoTo, Within, Ending}
 use Rattle.nr_heap.specs.Throws.{onward}

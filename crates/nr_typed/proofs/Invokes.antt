@@ -2,22 +2,22 @@
 use Rattle.std.proofs.Common.{◌≡◌, ℕ, List, ◌∷◌, ◌++◌, refl, sym, ap, subst, ◌∙◌, Bool, true, false, T}
 use Rattle.std.specs.Prelude.{Option, Some, None, if◌then◌else◌, ◌==◌}
 use Rattle.nr_optable.specs.declared.table.Family.TheVariants.{F32}
-use Rattle.nr_prog.specs.declared.program.tables.MethodInfo.{MethodInfo}
-use Rattle.nr_prog.specs.declared.program.tables.ProgramTables.{ProgramTables}
-use Rattle.nr_prog.specs.declared.program.tables.Resolved.{Resolved}
-use Rattle.nr_prog.specs.declared.program.tables.Resolved.TheVariants as resolved
-use Rattle.nr_prog.specs.declared.program.types.VType.{VType}
-use Rattle.nr_prog.specs.declared.program.types.VType.TheVariants as types
-use Rattle.nr_prog.specs.declared.typing.fault.Wanted.TheVariants as wanted
-use Rattle.nr_prog.specs.Kinds.{class_kind}
+use Rattle.nr_linked.specs.declared.program.tables.MethodInfo.{MethodInfo}
+use Rattle.nr_linked.specs.declared.program.tables.ProgramTables.{ProgramTables}
+use Rattle.nr_linked.specs.declared.program.tables.Resolved.{Resolved}
+use Rattle.nr_linked.specs.declared.program.tables.Resolved.TheVariants as resolved
+use Rattle.nr_linked.specs.declared.program.types.VType.{VType}
+use Rattle.nr_linked.specs.declared.program.types.VType.TheVariants as types
+use Rattle.nr_linked.specs.declared.typing.fault.Wanted.TheVariants as wanted
+use Rattle.nr_linked.specs.Kinds.{class_kind}
 use Rattle.nr_prog.specs.Members.{is_static}
-use Rattle.nr_prog.specs.Programs.{method_at}
-use Rattle.nr_prog.specs.Sites.{Site}
-use Rattle.nr_prog.specs.Subtypes.{is_above}
-use Rattle.nr_prog.specs.TypingFrames.{TypeFrame, is_operand_assignable, is_initialiser}
-use Rattle.nr_prog.specs.TypingChecks.{Checked, Leaves, take_that, take_for, leaves, leaves_operands}
-use Rattle.nr_prog.specs.TypingCalls.{with_result, with_callee, call_on, call_static, call_init, call_rule, is_init_receiver, after_init, invoke_rule}
-use Rattle.nr_prog.specs.TypingFacts.{TypingFacts, CallFacts, SiteFacts}
+use Rattle.nr_linked.specs.Programs.{method_at}
+use Rattle.nr_linked.specs.Sites.{Site}
+use Rattle.nr_linked.specs.Subtypes.{is_above}
+use Rattle.nr_linked.specs.TypingFrames.{TypeFrame, is_operand_assignable, is_initialiser}
+use Rattle.nr_linked.specs.TypingChecks.{Checked, Leaves, take_that, take_for, leaves, leaves_operands}
+use Rattle.nr_linked.specs.TypingCalls.{with_result, with_callee, call_on, call_static, call_init, call_rule, is_init_receiver, after_init, invoke_rule}
+use Rattle.nr_linked.specs.TypingFacts.{TypingFacts, CallFacts, SiteFacts}
 use Rattle.nr_heap.specs.Heaps.{Heap}
 use Rattle.nr_heap.specs.Scripts.{Script, Within, Ending}
 use Rattle.nr_heap.specs.CallRules.{call, invoke_virtual, invoke_interface, invoke_special}

@@ -1,16 +1,16 @@
 -- The rules of instructions that move operands: their scripts fit.
 use Rattle.std.proofs.Common.{◌≡◌, ℕ, ◌⊎◌, inl, inr, List, [], ◌∷◌, sym, ap, subst, ◌∙◌, not, arith, T}
 use Rattle.std.specs.Prelude.{Option, Some, None, ◌++◌}
-use Rattle.nr_prog.specs.declared.program.tables.MethodInfo.{MethodInfo}
-use Rattle.nr_prog.specs.declared.program.tables.ProgramTables.{ProgramTables}
-use Rattle.nr_prog.specs.declared.program.types.VType.{VType}
-use Rattle.nr_prog.specs.declared.program.types.VType.TheVariants as types
-use Rattle.nr_prog.specs.Kinds.{class_kind}
-use Rattle.nr_prog.specs.TypingFrames.{TypeFrame, is_long}
-use Rattle.nr_prog.specs.TypingChecks.{Checked, Leaves, take_single, leaves_operands}
-use Rattle.nr_prog.specs.TypingMoves.{by_size, dup_rule, dup_x1_rule, dup_x2_rule, dup2_rule, dup2_x1_rule, dup2_x2_rule, swap_rule}
-use Rattle.nr_prog.specs.TypingCalls.{class_made_at}
-use Rattle.nr_prog.specs.TypingFacts.{TypingFacts}
+use Rattle.nr_linked.specs.declared.program.tables.MethodInfo.{MethodInfo}
+use Rattle.nr_linked.specs.declared.program.tables.ProgramTables.{ProgramTables}
+use Rattle.nr_linked.specs.declared.program.types.VType.{VType}
+use Rattle.nr_linked.specs.declared.program.types.VType.TheVariants as types
+use Rattle.nr_linked.specs.Kinds.{class_kind}
+use Rattle.nr_linked.specs.TypingFrames.{TypeFrame, is_long}
+use Rattle.nr_linked.specs.TypingChecks.{Checked, Leaves, take_single, leaves_operands}
+use Rattle.nr_linked.specs.TypingMoves.{by_size, dup_rule, dup_x1_rule, dup_x2_rule, dup2_rule, dup2_x1_rule, dup2_x2_rule, swap_rule}
+use Rattle.nr_linked.specs.TypingCalls.{class_made_at}
+use Rattle.nr_linked.specs.TypingFacts.{TypingFacts}
 use Rattle.nr_heap.specs.Heaps.{Heap, on_some}
 use Rattle.nr_heap.specs.Scripts.{Script, Drop, Within, Ending}
 use Rattle.nr_heap.specs.ValueRules as scripts

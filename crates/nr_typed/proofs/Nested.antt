@@ -1,20 +1,20 @@
 -- The rule of multianewarray: its script fits.
 use Rattle.std.proofs.Common.{◌≡◌, ℕ, zero, suc, ◌+◌, ◌≤◌, List, [], ◌∷◌, length, refl, sym, ap, subst, ◌∙◌, Bool, false, arith, T}
 use Rattle.std.specs.Prelude.{if◌then◌else◌}
-use Rattle.nr_prog.specs.declared.program.built_in.BuiltIn.TheVariants as built_ins
-use Rattle.nr_prog.specs.declared.program.kind.Base.{Base}
-use Rattle.nr_prog.specs.declared.program.kind.Kind.{Kind}
-use Rattle.nr_prog.specs.declared.program.tables.MethodInfo.{MethodInfo}
-use Rattle.nr_prog.specs.declared.program.tables.ProgramTables.{ProgramTables}
-use Rattle.nr_prog.specs.declared.program.types.VType.{VType}
-use Rattle.nr_prog.specs.declared.program.types.VType.TheVariants as types
-use Rattle.nr_prog.specs.Kinds.{array_of}
-use Rattle.nr_prog.specs.Sites.{Site}
-use Rattle.nr_prog.specs.Subtypes.{is_assignable}
-use Rattle.nr_prog.specs.TypingFrames.{TypeFrame}
-use Rattle.nr_prog.specs.TypingChecks.{Checked, Leaves, take_ints, leaves_operands}
-use Rattle.nr_prog.specs.TypingArrays.{made_of_counts}
-use Rattle.nr_prog.specs.TypingFacts.{TypingFacts}
+use Rattle.nr_linked.specs.declared.program.built_in.BuiltIn.TheVariants as built_ins
+use Rattle.nr_linked.specs.declared.program.kind.Base.{Base}
+use Rattle.nr_linked.specs.declared.program.kind.Kind.{Kind}
+use Rattle.nr_linked.specs.declared.program.tables.MethodInfo.{MethodInfo}
+use Rattle.nr_linked.specs.declared.program.tables.ProgramTables.{ProgramTables}
+use Rattle.nr_linked.specs.declared.program.types.VType.{VType}
+use Rattle.nr_linked.specs.declared.program.types.VType.TheVariants as types
+use Rattle.nr_linked.specs.Kinds.{array_of}
+use Rattle.nr_linked.specs.Sites.{Site}
+use Rattle.nr_linked.specs.Subtypes.{is_assignable}
+use Rattle.nr_linked.specs.TypingFrames.{TypeFrame}
+use Rattle.nr_linked.specs.TypingChecks.{Checked, Leaves, take_ints, leaves_operands}
+use Rattle.nr_linked.specs.TypingArrays.{made_of_counts}
+use Rattle.nr_linked.specs.TypingFacts.{TypingFacts}
 use Rattle.nr_heap.specs.Heaps.{Heap}
 use Rattle.nr_heap.specs.Scripts.{Script, WriteSlot, Within, Ending}
 use Rattle.nr_heap.specs.Throws.{throw_new}

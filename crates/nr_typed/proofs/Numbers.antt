@@ -5,21 +5,21 @@ use Rattle.std.specs.Ordering.{int_eq}
 use Rattle.std.proofs.Math.Facts.{ltb_yes}
 use Rattle.nr_optable.specs.declared.table.Letter.{Letter}
 use Rattle.nr_optable.specs.declared.table.Letter.TheVariants as letters
-use Rattle.nr_prog.specs.declared.program.built_in.BuiltIn.TheVariants as built_ins
-use Rattle.nr_prog.specs.declared.program.kind.Kind.{Kind}
-use Rattle.nr_prog.specs.declared.program.tables.MethodInfo.{MethodInfo}
-use Rattle.nr_prog.specs.declared.program.tables.ProgramTables.{ProgramTables}
-use Rattle.nr_prog.specs.declared.program.types.VType.{VType}
-use Rattle.nr_prog.specs.declared.program.types.VType.TheVariants as types
-use Rattle.nr_prog.specs.declared.typing.fault.OpFault.TheVariants.{NeedsInit}
-use Rattle.nr_prog.specs.declared.typing.fault.Wanted.TheVariants as wanted
-use Rattle.nr_prog.specs.Kinds.{class_kind, is_reference}
-use Rattle.nr_prog.specs.Sites.{Site}
-use Rattle.nr_prog.specs.TypingFrames.{TypeFrame, of_kind, is_int, is_long, is_initialised, is_initialiser, is_operand_assignable}
-use Rattle.nr_prog.specs.TypingChecks.{Checked, Leaves, need, is_letter, wanted_letter, take_letters, leaves, leaves_operands}
-use Rattle.nr_prog.specs.TypingLocals.{local_type, put, is_in_range, load_rule, store_rule, increment_rule}
-use Rattle.nr_prog.specs.TypingCalls.{class_made_at, is_return_of, take_result, return_rule}
-use Rattle.nr_prog.specs.TypingFacts.{TypingFacts}
+use Rattle.nr_linked.specs.declared.program.built_in.BuiltIn.TheVariants as built_ins
+use Rattle.nr_linked.specs.declared.program.kind.Kind.{Kind}
+use Rattle.nr_linked.specs.declared.program.tables.MethodInfo.{MethodInfo}
+use Rattle.nr_linked.specs.declared.program.tables.ProgramTables.{ProgramTables}
+use Rattle.nr_linked.specs.declared.program.types.VType.{VType}
+use Rattle.nr_linked.specs.declared.program.types.VType.TheVariants as types
+use Rattle.nr_linked.specs.declared.typing.fault.OpFault.TheVariants.{NeedsInit}
+use Rattle.nr_linked.specs.declared.typing.fault.Wanted.TheVariants as wanted
+use Rattle.nr_linked.specs.Kinds.{class_kind, is_reference}
+use Rattle.nr_linked.specs.Sites.{Site}
+use Rattle.nr_linked.specs.TypingFrames.{TypeFrame, of_kind, is_int, is_long, is_initialised, is_initialiser, is_operand_assignable}
+use Rattle.nr_linked.specs.TypingChecks.{Checked, Leaves, need, is_letter, wanted_letter, take_letters, leaves, leaves_operands}
+use Rattle.nr_linked.specs.TypingLocals.{local_type, put, is_in_range, load_rule, store_rule, increment_rule}
+use Rattle.nr_linked.specs.TypingCalls.{class_made_at, is_return_of, take_result, return_rule}
+use Rattle.nr_linked.specs.TypingFacts.{TypingFacts}
 use Rattle.nr_heap.specs.Heaps.{Heap, on_some}
 use Rattle.nr_heap.specs.Scripts.{Plain, plain, PlainInt, PlainLong, Script, GoTo, Return, ReturnTop, Push, PopInt, PopLong, Store, Drop, AskNull, AskSame, Within, Ending}
 use Rattle.nr_heap.specs.Throws.{typed}

@@ -3,27 +3,27 @@ use Rattle.std.proofs.Common.{◌≡◌, ℕ, List, ◌∷◌, length, refl, sym
 use Rattle.std.specs.Prelude.{ℤ, Option, Some, None, IsTrue, slice_get, if◌then◌else◌, ◌==◌}
 use Rattle.std.proofs.Math.Facts.{eqb_yes}
 use Rattle.nr_optable.specs.declared.table.Letter.TheVariants as letters
-use Rattle.nr_prog.specs.declared.program.built_in.BuiltIn.TheVariants as built_ins
-use Rattle.nr_prog.specs.declared.program.kind.Base.{Base}
-use Rattle.nr_prog.specs.declared.program.kind.Base.TheVariants as bases
-use Rattle.nr_prog.specs.declared.program.kind.Kind.{Kind}
-use Rattle.nr_prog.specs.declared.program.tables.MethodInfo.{MethodInfo}
-use Rattle.nr_prog.specs.declared.program.tables.ProgramTables.{ProgramTables}
-use Rattle.nr_prog.specs.declared.program.tables.Resolved.TheVariants as resolved
-use Rattle.nr_prog.specs.declared.program.tables.SlotInfo.{SlotInfo}
-use Rattle.nr_prog.specs.declared.program.types.VType.{VType}
-use Rattle.nr_prog.specs.declared.program.types.VType.TheVariants as types
-use Rattle.nr_prog.specs.declared.typing.fault.Wanted.TheVariants as wanted
-use Rattle.nr_prog.specs.Kinds.{class_kind, is_reference}
-use Rattle.nr_prog.specs.BuiltIns.{built_in}
-use Rattle.nr_prog.specs.Slots.{slots_of}
-use Rattle.nr_prog.specs.Sites.{Site}
-use Rattle.nr_prog.specs.Subtypes.{is_assignable, is_sub, is_above}
-use Rattle.nr_prog.specs.TypingFrames.{TypeFrame, of_base, of_kind, is_initialised, is_initialiser, is_operand_assignable}
-use Rattle.nr_prog.specs.TypingChecks.{Checked, Leaves, take_that, leaves_operands}
-use Rattle.nr_prog.specs.TypingObjects.{with_slot, get_slot_rule, put_slot_rule, is_put_receiver, get_field_rule, put_field_rule, holds_made_at, forgotten, new_rule, test_rule, throwable_type, throw_rule}
-use Rattle.nr_prog.specs.TypingCalls.{class_made_at}
-use Rattle.nr_prog.specs.TypingFacts.{TypingFacts, is_makeable}
+use Rattle.nr_linked.specs.declared.program.built_in.BuiltIn.TheVariants as built_ins
+use Rattle.nr_linked.specs.declared.program.kind.Base.{Base}
+use Rattle.nr_linked.specs.declared.program.kind.Base.TheVariants as bases
+use Rattle.nr_linked.specs.declared.program.kind.Kind.{Kind}
+use Rattle.nr_linked.specs.declared.program.tables.MethodInfo.{MethodInfo}
+use Rattle.nr_linked.specs.declared.program.tables.ProgramTables.{ProgramTables}
+use Rattle.nr_linked.specs.declared.program.tables.Resolved.TheVariants as resolved
+use Rattle.nr_linked.specs.declared.program.tables.SlotInfo.{SlotInfo}
+use Rattle.nr_linked.specs.declared.program.types.VType.{VType}
+use Rattle.nr_linked.specs.declared.program.types.VType.TheVariants as types
+use Rattle.nr_linked.specs.declared.typing.fault.Wanted.TheVariants as wanted
+use Rattle.nr_linked.specs.Kinds.{class_kind, is_reference}
+use Rattle.nr_linked.specs.BuiltIns.{built_in}
+use Rattle.nr_linked.specs.Slots.{slots_of}
+use Rattle.nr_linked.specs.Sites.{Site}
+use Rattle.nr_linked.specs.Subtypes.{is_assignable, is_sub, is_above}
+use Rattle.nr_linked.specs.TypingFrames.{TypeFrame, of_base, of_kind, is_initialised, is_initialiser, is_operand_assignable}
+use Rattle.nr_linked.specs.TypingChecks.{Checked, Leaves, take_that, leaves_operands}
+use Rattle.nr_linked.specs.TypingObjects.{with_slot, get_slot_rule, put_slot_rule, is_put_receiver, get_field_rule, put_field_rule, holds_made_at, forgotten, new_rule, test_rule, throwable_type, throw_rule}
+use Rattle.nr_linked.specs.TypingCalls.{class_made_at}
+use Rattle.nr_linked.specs.TypingFacts.{TypingFacts, is_makeable}
 use Rattle.nr_heap.specs.declared.value.Value.{Value}
 use Rattle.nr_heap.specs.declared.value.Value.TheVariants.{Int, Long, Null, Ref}
 use Rattle.nr_heap.specs.Heaps.{Heap, on_some}

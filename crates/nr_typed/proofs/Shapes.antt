@@ -10,25 +10,25 @@ use Rattle.nr_optable.specs.declared.table.Shape.{Shape}
 use Rattle.nr_optable.specs.declared.table.Shape.TheVariants as shapes
 use Rattle.nr_prog.specs.declared.body.instruction.Args.{Args}
 use Rattle.nr_prog.specs.declared.body.instruction.Args.TheVariants as args
-use Rattle.nr_prog.specs.declared.program.kind.Base.{Base}
-use Rattle.nr_prog.specs.declared.program.kind.Base.TheVariants as bases
-use Rattle.nr_prog.specs.declared.program.tables.MethodInfo.{MethodInfo}
-use Rattle.nr_prog.specs.declared.program.tables.ProgramTables.{ProgramTables}
-use Rattle.nr_prog.specs.declared.program.tables.Resolved.{Resolved}
-use Rattle.nr_prog.specs.declared.program.tables.Resolved.TheVariants as resolved
-use Rattle.nr_prog.specs.declared.program.types.VType.TheVariants as types
-use Rattle.nr_prog.specs.Kinds.{class_kind}
-use Rattle.nr_prog.specs.Sites.{Site, site_at}
-use Rattle.nr_prog.specs.Subtypes.{is_assignable}
-use Rattle.nr_prog.specs.TypingFrames.{TypeFrame}
-use Rattle.nr_prog.specs.TypingChecks.{Checked, Leaves, take_letters, leaves_operands}
-use Rattle.nr_prog.specs.TypingLocals.{numbered, with_number, load_rule, store_rule, wide_rule}
-use Rattle.nr_prog.specs.TypingArrays.{primitive_of, primitive_array_rule, new_array_rule}
-use Rattle.nr_prog.specs.TypingObjects.{get_field_rule, put_field_rule, new_rule, test_rule}
-use Rattle.nr_prog.specs.TypingCalls.{class_made, class_made_at}
-use Rattle.nr_prog.specs.TypingRules.{iinc_rule}
-use Rattle.nr_prog.specs.TypingFacts.{TypingFacts, SiteFacts, is_shaped, is_constant}
-use Rattle.nr_prog.specs.WellTyped.{targets_of}
+use Rattle.nr_linked.specs.declared.program.kind.Base.{Base}
+use Rattle.nr_linked.specs.declared.program.kind.Base.TheVariants as bases
+use Rattle.nr_linked.specs.declared.program.tables.MethodInfo.{MethodInfo}
+use Rattle.nr_linked.specs.declared.program.tables.ProgramTables.{ProgramTables}
+use Rattle.nr_linked.specs.declared.program.tables.Resolved.{Resolved}
+use Rattle.nr_linked.specs.declared.program.tables.Resolved.TheVariants as resolved
+use Rattle.nr_linked.specs.declared.program.types.VType.TheVariants as types
+use Rattle.nr_linked.specs.Kinds.{class_kind}
+use Rattle.nr_linked.specs.Sites.{Site, site_at}
+use Rattle.nr_linked.specs.Subtypes.{is_assignable}
+use Rattle.nr_linked.specs.TypingFrames.{TypeFrame}
+use Rattle.nr_linked.specs.TypingChecks.{Checked, Leaves, take_letters, leaves_operands}
+use Rattle.nr_linked.specs.TypingLocals.{numbered, with_number, load_rule, store_rule, wide_rule}
+use Rattle.nr_linked.specs.TypingArrays.{primitive_of, primitive_array_rule, new_array_rule}
+use Rattle.nr_linked.specs.TypingObjects.{get_field_rule, put_field_rule, new_rule, test_rule}
+use Rattle.nr_linked.specs.TypingCalls.{class_made, class_made_at}
+use Rattle.nr_linked.specs.TypingRules.{iinc_rule}
+use Rattle.nr_linked.specs.TypingFacts.{TypingFacts, SiteFacts, is_shaped, is_constant}
+use Rattle.nr_linked.specs.WellTyped.{targets_of}
 use Rattle.nr_heap.specs.Heaps.{Heap}
 use Rattle.nr_heap.specs.Scripts.{PlainInt, PlainLong, Script, GoTo, Within, Ending}
 use Rattle.nr_heap.specs.Throws.{with_found}

@@ -6,25 +6,25 @@ use Rattle.std.proofs.lemmas.List.{append-nil}
 use Rattle.nr_optable.specs.Arithmetic.{to_char}
 use Rattle.nr_optable.specs.declared.table.Family.TheVariants.{F32}
 use Rattle.nr_prog.specs.declared.body.whole.Body.{Body}
-use Rattle.nr_prog.specs.declared.program.built_in.BuiltIn.TheVariants as built_ins
-use Rattle.nr_prog.specs.declared.program.kind.Base.{Base}
-use Rattle.nr_prog.specs.declared.program.kind.Base.TheVariants as bases
-use Rattle.nr_prog.specs.declared.program.kind.Kind.{Kind}
-use Rattle.nr_prog.specs.declared.program.tables.MethodInfo.{MethodInfo}
-use Rattle.nr_prog.specs.declared.program.tables.ProgramTables.{ProgramTables}
-use Rattle.nr_prog.specs.declared.program.tables.Resolved.TheVariants as resolved
-use Rattle.nr_prog.specs.declared.program.types.VType.{VType}
-use Rattle.nr_prog.specs.declared.program.types.VType.TheVariants as types
-use Rattle.nr_prog.specs.Kinds.{class_kind, element_of}
+use Rattle.nr_linked.specs.declared.program.built_in.BuiltIn.TheVariants as built_ins
+use Rattle.nr_linked.specs.declared.program.kind.Base.{Base}
+use Rattle.nr_linked.specs.declared.program.kind.Base.TheVariants as bases
+use Rattle.nr_linked.specs.declared.program.kind.Kind.{Kind}
+use Rattle.nr_linked.specs.declared.program.tables.MethodInfo.{MethodInfo}
+use Rattle.nr_linked.specs.declared.program.tables.ProgramTables.{ProgramTables}
+use Rattle.nr_linked.specs.declared.program.tables.Resolved.TheVariants as resolved
+use Rattle.nr_linked.specs.declared.program.types.VType.{VType}
+use Rattle.nr_linked.specs.declared.program.types.VType.TheVariants as types
+use Rattle.nr_linked.specs.Kinds.{class_kind, element_of}
 use Rattle.nr_prog.specs.Members.{is_static}
-use Rattle.nr_prog.specs.BuiltIns.{BuiltInMethod, built_in_class}
-use Rattle.nr_prog.specs.Programs.{method_at}
-use Rattle.nr_prog.specs.Sites.{Site}
-use Rattle.nr_prog.specs.TypingFrames.{TypeFrame, of_kind, of_kinds, is_operand_assignable, operands_fit, is_initialiser}
-use Rattle.nr_prog.specs.TypingChecks.{Leaves, leaves_operands}
-use Rattle.nr_prog.specs.TypingCalls.{with_result}
-use Rattle.nr_prog.specs.TypingArrays.{Of}
-use Rattle.nr_prog.specs.TypingFacts.{TypingFacts, CallFacts}
+use Rattle.nr_linked.specs.BuiltIns.{BuiltInMethod, built_in_class}
+use Rattle.nr_linked.specs.Programs.{method_at}
+use Rattle.nr_linked.specs.Sites.{Site}
+use Rattle.nr_linked.specs.TypingFrames.{TypeFrame, of_kind, of_kinds, is_operand_assignable, operands_fit, is_initialiser}
+use Rattle.nr_linked.specs.TypingChecks.{Leaves, leaves_operands}
+use Rattle.nr_linked.specs.TypingCalls.{with_result}
+use Rattle.nr_linked.specs.TypingArrays.{Of}
+use Rattle.nr_linked.specs.TypingFacts.{TypingFacts, CallFacts}
 use Rattle.nr_heap.specs.Heaps.{Heap}
 use Rattle.nr_heap.specs.Scripts.{Script, Call, PopInt, PopLong, Drop, AskKind, Print, Within, Ending}
 use Rattle.nr_heap.specs.Throws.{with_found, which}

@@ -7,19 +7,19 @@ use Rattle.std.proofs.Math.Facts.{eqb_yes}
 use Rattle.nr_prog.specs.declared.body.instruction.Instr.{Instr}
 use Rattle.nr_prog.specs.declared.body.whole.Body.{Body}
 use Rattle.nr_prog.specs.declared.member.Handler.{Handler}
-use Rattle.nr_prog.specs.declared.program.built_in.BuiltIn.TheVariants as built_ins
-use Rattle.nr_prog.specs.declared.program.kind.Kind.{Kind}
-use Rattle.nr_prog.specs.declared.program.tables.MethodInfo.{MethodInfo}
-use Rattle.nr_prog.specs.declared.program.tables.ProgramTables.{ProgramTables}
-use Rattle.nr_prog.specs.declared.program.tables.Resolved.{Resolved}
-use Rattle.nr_prog.specs.Kinds.{class_kind}
-use Rattle.nr_prog.specs.BuiltIns.{built_in}
-use Rattle.nr_prog.specs.Programs.{method_at}
-use Rattle.nr_prog.specs.Sites.{Site, first_offset, site_among, site_at}
-use Rattle.nr_prog.specs.Subtypes.{is_assignable, is_above}
-use Rattle.nr_prog.specs.TypingFrames.{TypeFrame, locals_fit, operands_fit, frame_fits, total_size}
-use Rattle.nr_prog.specs.TypingFacts.{TypingFacts}
-use Rattle.nr_prog.specs.WellTyped.{covers as covers_at, map_at, frame_among, frame_at, Comes, ComesTo, FitsMap, caught_type, with_catches, catchers, handler_frame, MethodTyped, WellTyped}
+use Rattle.nr_linked.specs.declared.program.built_in.BuiltIn.TheVariants as built_ins
+use Rattle.nr_linked.specs.declared.program.kind.Kind.{Kind}
+use Rattle.nr_linked.specs.declared.program.tables.MethodInfo.{MethodInfo}
+use Rattle.nr_linked.specs.declared.program.tables.ProgramTables.{ProgramTables}
+use Rattle.nr_linked.specs.declared.program.tables.Resolved.{Resolved}
+use Rattle.nr_linked.specs.Kinds.{class_kind}
+use Rattle.nr_linked.specs.BuiltIns.{built_in}
+use Rattle.nr_linked.specs.Programs.{method_at}
+use Rattle.nr_linked.specs.Sites.{Site, first_offset, site_among, site_at}
+use Rattle.nr_linked.specs.Subtypes.{is_assignable, is_above}
+use Rattle.nr_linked.specs.TypingFrames.{TypeFrame, locals_fit, operands_fit, frame_fits, total_size}
+use Rattle.nr_linked.specs.TypingFacts.{TypingFacts}
+use Rattle.nr_linked.specs.WellTyped.{covers as covers_at, map_at, frame_among, frame_at, Comes, ComesTo, FitsMap, caught_type, with_catches, catchers, handler_frame, MethodTyped, WellTyped}
 use Rattle.nr_heap.specs.declared.value.Value.TheVariants.{Ref}
 use Rattle.nr_heap.specs.Heaps.{Obj, Heap, on_some}
 use Rattle.nr_heap.specs.States.{Frame, Running}

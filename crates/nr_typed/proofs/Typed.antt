@@ -4,9 +4,9 @@ use Rattle.std.specs.Prelude.{ℤ, Option, Some, None, IsSomeAnd, slice_get, sli
 use Rattle.std.proofs.Math.Decide.{ℕ_discrete}
 use Rattle.std.proofs.lemmas.List.{length-set, length-map}
 use Rattle.std.specs.FinMap.{get, insert}
-use Rattle.nr_prog.specs.declared.program.kind.Kind.{Kind}
-use Rattle.nr_prog.specs.declared.program.tables.ProgramTables.{ProgramTables}
-use Rattle.nr_prog.specs.Subtypes.{is_assignable}
+use Rattle.nr_linked.specs.declared.program.kind.Kind.{Kind}
+use Rattle.nr_linked.specs.declared.program.tables.ProgramTables.{ProgramTables}
+use Rattle.nr_linked.specs.Subtypes.{is_assignable}
 use Rattle.nr_heap.specs.declared.value.Value.{Value}
 use Rattle.nr_heap.specs.declared.value.Value.TheVariants.{Int, Long, Null, Ref}
 use Rattle.nr_heap.specs.Heaps.{Obj, Heap}

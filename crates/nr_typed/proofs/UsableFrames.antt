@@ -3,18 +3,18 @@ use Rattle.std.proofs.Common.{◌≡◌, ℕ, suc, ◌≤◌, List, [], ◌∷�
 use Rattle.std.specs.Prelude.{pos, Option, Some, None, take, drop, reverse, if◌then◌else◌}
 use Rattle.std.specs.Option.{option_map}
 use Rattle.std.specs.FinMap.{get}
-use Rattle.nr_prog.specs.declared.program.built_in.BuiltIn.TheVariants as built_ins
-use Rattle.nr_prog.specs.declared.program.kind.Kind.{Kind}
-use Rattle.nr_prog.specs.declared.program.tables.MethodInfo.{MethodInfo}
-use Rattle.nr_prog.specs.declared.program.tables.ProgramTables.{ProgramTables}
-use Rattle.nr_prog.specs.BuiltIns.{built_in}
-use Rattle.nr_prog.specs.Kinds.{class_kind}
+use Rattle.nr_linked.specs.declared.program.built_in.BuiltIn.TheVariants as built_ins
+use Rattle.nr_linked.specs.declared.program.kind.Kind.{Kind}
+use Rattle.nr_linked.specs.declared.program.tables.MethodInfo.{MethodInfo}
+use Rattle.nr_linked.specs.declared.program.tables.ProgramTables.{ProgramTables}
+use Rattle.nr_linked.specs.BuiltIns.{built_in}
+use Rattle.nr_linked.specs.Kinds.{class_kind}
 use Rattle.nr_prog.specs.Members.{is_static}
-use Rattle.nr_prog.specs.Programs.{method_at}
-use Rattle.nr_prog.specs.Subtypes.{is_assignable}
-use Rattle.nr_prog.specs.TypingFrames.{TypeFrame}
-use Rattle.nr_prog.specs.TypingFacts.{TypingFacts}
-use Rattle.nr_prog.specs.WellTyped.{WellTyped}
+use Rattle.nr_linked.specs.Programs.{method_at}
+use Rattle.nr_linked.specs.Subtypes.{is_assignable}
+use Rattle.nr_linked.specs.TypingFrames.{TypeFrame}
+use Rattle.nr_linked.specs.TypingFacts.{TypingFacts}
+use Rattle.nr_linked.specs.WellTyped.{WellTyped}
 use Rattle.nr_heap.specs.declared.value.Value.{Value}
 use Rattle.nr_heap.specs.declared.value.Value.TheVariants.{Int, Null, Ref}
 use Rattle.nr_heap.specs.Heaps.{Obj, Heap, on_some}

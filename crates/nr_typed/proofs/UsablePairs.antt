@@ -1,7 +1,7 @@
 -- Where all places agree, the usable ones do.
 use Rattle.std.proofs.Common.{ℕ, List, [], ◌∷◌, length, inl, inr}
-use Rattle.nr_prog.specs.declared.program.tables.ProgramTables.{ProgramTables}
-use Rattle.nr_prog.specs.TypingFrames.{TypeFrame}
+use Rattle.nr_linked.specs.declared.program.tables.ProgramTables.{ProgramTables}
+use Rattle.nr_linked.specs.TypingFrames.{TypeFrame}
 use Rattle.nr_heap.specs.Heaps.{Heap}
 use Rattle.nr_heap.specs.States.{Frame, Control, Running, Returned, Thrown, State}
 use Rattle.nr_heap.specs.Alike as alike

@@ -1,10 +1,10 @@
 -- Steps keep that two states agree at usable places and are paired.
 use Rattle.std.proofs.Common.{◌≡◌, ℕ, zero, suc, List, ◌++◌, length, refl, sym, ap, ap₂, subst, subst₂, ◌∙◌, inl, inr}
 use Rattle.std.specs.Prelude.{Some, IsSomeAnd, slice_get}
-use Rattle.nr_prog.specs.declared.program.tables.ProgramTables.{ProgramTables}
-use Rattle.nr_prog.specs.TypingFrames.{TypeFrame}
-use Rattle.nr_prog.specs.TypingFacts.{TypingFacts}
-use Rattle.nr_prog.specs.WellTyped.{WellTyped}
+use Rattle.nr_linked.specs.declared.program.tables.ProgramTables.{ProgramTables}
+use Rattle.nr_linked.specs.TypingFrames.{TypeFrame}
+use Rattle.nr_linked.specs.TypingFacts.{TypingFacts}
+use Rattle.nr_linked.specs.WellTyped.{WellTyped}
 use Rattle.nr_heap.specs.declared.value.Value.{Value}
 use Rattle.nr_heap.specs.Rules.{script}
 use Rattle.nr_heap.specs.States.{Frame, Control, State, IsEnd}

@@ -2,11 +2,11 @@
 use Rattle.std.specs.Prelude.{◌≡◌, ℕ, ◌<◌, ◌^◌, ℤ, pos, List, [], ◌∷◌, length, Option, Some, None, IsSomeAnd, T, FitsSigned}
 use Rattle.std.specs.Int.{w8, w16}
 use Rattle.std.specs.FinMap.{get}
-use Rattle.nr_prog.specs.declared.program.kind.Base.{Base}
-use Rattle.nr_prog.specs.declared.program.kind.Base.TheVariants as bases
-use Rattle.nr_prog.specs.declared.program.kind.Kind.{Kind}
-use Rattle.nr_prog.specs.declared.program.tables.ProgramTables.{ProgramTables}
-use Rattle.nr_prog.specs.Subtypes.{is_assignable}
+use Rattle.nr_linked.specs.declared.program.kind.Base.{Base}
+use Rattle.nr_linked.specs.declared.program.kind.Base.TheVariants as bases
+use Rattle.nr_linked.specs.declared.program.kind.Kind.{Kind}
+use Rattle.nr_linked.specs.declared.program.tables.ProgramTables.{ProgramTables}
+use Rattle.nr_linked.specs.Subtypes.{is_assignable}
 use Rattle.nr_heap.specs.declared.value.Value.{Value}
 use Rattle.nr_heap.specs.declared.value.Value.TheVariants.{Long, Null}
 use Rattle.nr_heap.specs.Heaps.{Heap}

@@ -13,22 +13,22 @@ use Rattle.nr_prog.specs.declared.body.instruction.Args.TheVariants.{Empty, Pool
 use Rattle.nr_prog.specs.declared.body.instruction.Instr.{Instr}
 use Rattle.nr_prog.specs.declared.body.whole.Body.{Body}
 use Rattle.nr_prog.specs.declared.member.Handler.{Handler}
-use Rattle.nr_prog.specs.declared.program.kind.Base.TheVariants as bases
-use Rattle.nr_prog.specs.declared.program.kind.Kind.{Kind}
-use Rattle.nr_prog.specs.declared.program.tables.ClassInfo.{ClassInfo}
-use Rattle.nr_prog.specs.declared.program.tables.MethodInfo.{MethodInfo}
-use Rattle.nr_prog.specs.declared.program.tables.ProgramTables.{ProgramTables}
-use Rattle.nr_prog.specs.declared.program.tables.SlotInfo.{SlotInfo}
-use Rattle.nr_prog.specs.declared.program.tables.Resolved.{Resolved}
-use Rattle.nr_prog.specs.declared.program.tables.Resolved.TheVariants as resolved
-use Rattle.nr_prog.specs.declared.program.types.VFrame.{VFrame}
-use Rattle.nr_prog.specs.declared.program.types.VType.TheVariants.{Int, UninitThis, Uninit, Class}
-use Rattle.nr_prog.specs.Kinds.{class_kind}
-use Rattle.nr_prog.specs.BuiltInTables.{built_in_infos, built_in_methods}
-use Rattle.nr_prog.specs.TypingFrames.{TypeFrame}
+use Rattle.nr_linked.specs.declared.program.kind.Base.TheVariants as bases
+use Rattle.nr_linked.specs.declared.program.kind.Kind.{Kind}
+use Rattle.nr_linked.specs.declared.program.tables.ClassInfo.{ClassInfo}
+use Rattle.nr_linked.specs.declared.program.tables.MethodInfo.{MethodInfo}
+use Rattle.nr_linked.specs.declared.program.tables.ProgramTables.{ProgramTables}
+use Rattle.nr_linked.specs.declared.program.tables.SlotInfo.{SlotInfo}
+use Rattle.nr_linked.specs.declared.program.tables.Resolved.{Resolved}
+use Rattle.nr_linked.specs.declared.program.tables.Resolved.TheVariants as resolved
+use Rattle.nr_linked.specs.declared.program.types.VFrame.{VFrame}
+use Rattle.nr_linked.specs.declared.program.types.VType.TheVariants.{Int, UninitThis, Uninit, Class}
+use Rattle.nr_linked.specs.Kinds.{class_kind}
+use Rattle.nr_linked.specs.BuiltInTables.{built_in_infos, built_in_methods}
+use Rattle.nr_linked.specs.TypingFrames.{TypeFrame}
 use Rattle.std.specs.Prelude.{◌++◌, slice_get}
 use Rattle.std.specs.Option.{option_map_or}
-use Rattle.nr_prog.specs.declared.program.types.VType.{VType}
+use Rattle.nr_linked.specs.declared.program.types.VType.{VType}
 
 abbrev pub int_kind : Kind
 int_kind = record { dims = 0; base = bases.Int }

@@ -1,17 +1,17 @@
 -- States that stand in their heap: the frames hold values of the types of the well-typed program's frames.
 use Rattle.std.specs.Prelude.{◌≡◌, ℕ, ◌≤◌, List, [], ◌∷◌, drop, Some}
-use Rattle.nr_prog.specs.declared.program.built_in.BuiltIn.TheVariants.{Throwable}
-use Rattle.nr_prog.specs.declared.program.tables.MethodInfo.{MethodInfo}
-use Rattle.nr_prog.specs.declared.program.tables.ProgramTables.{ProgramTables}
-use Rattle.nr_prog.specs.declared.program.tables.Resolved.TheVariants as resolved
+use Rattle.nr_linked.specs.declared.program.built_in.BuiltIn.TheVariants.{Throwable}
+use Rattle.nr_linked.specs.declared.program.tables.MethodInfo.{MethodInfo}
+use Rattle.nr_linked.specs.declared.program.tables.ProgramTables.{ProgramTables}
+use Rattle.nr_linked.specs.declared.program.tables.Resolved.TheVariants as resolved
 use Rattle.nr_prog.specs.declared.body.whole.Body.{Body}
 use Rattle.nr_optable.specs.declared.table.Family.TheVariants.{F32}
-use Rattle.nr_prog.specs.BuiltIns.{built_in}
-use Rattle.nr_prog.specs.Kinds.{class_kind}
-use Rattle.nr_prog.specs.Programs.{method_at}
-use Rattle.nr_prog.specs.Sites.{Site, site_at}
-use Rattle.nr_prog.specs.TypingFrames.{TypeFrame, total_size}
-use Rattle.nr_prog.specs.WellTyped.{frame_at}
+use Rattle.nr_linked.specs.BuiltIns.{built_in}
+use Rattle.nr_linked.specs.Kinds.{class_kind}
+use Rattle.nr_linked.specs.Programs.{method_at}
+use Rattle.nr_linked.specs.Sites.{Site, site_at}
+use Rattle.nr_linked.specs.TypingFrames.{TypeFrame, total_size}
+use Rattle.nr_linked.specs.WellTyped.{frame_at}
 use Rattle.nr_heap.specs.declared.value.Value.{Value}
 use Rattle.nr_heap.specs.Heaps.{Heap}
 use Rattle.nr_heap.specs.CallRules.{operands_of}

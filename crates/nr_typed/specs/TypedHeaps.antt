@@ -1,12 +1,12 @@
 -- Typed heaps.
 use Rattle.std.specs.Prelude.{◌≡◌, ℕ, zero, suc, length, Some, slice_get, T}
 use Rattle.std.specs.FinMap.{get}
-use Rattle.nr_prog.specs.declared.program.kind.Base.{Base}
-use Rattle.nr_prog.specs.declared.program.kind.Base.TheVariants as bases
-use Rattle.nr_prog.specs.declared.program.kind.Kind.{Kind}
-use Rattle.nr_prog.specs.declared.program.tables.ProgramTables.{ProgramTables}
-use Rattle.nr_prog.specs.Slots.{slots_of}
-use Rattle.nr_prog.specs.TypingFacts.{is_makeable}
+use Rattle.nr_linked.specs.declared.program.kind.Base.{Base}
+use Rattle.nr_linked.specs.declared.program.kind.Base.TheVariants as bases
+use Rattle.nr_linked.specs.declared.program.kind.Kind.{Kind}
+use Rattle.nr_linked.specs.declared.program.tables.ProgramTables.{ProgramTables}
+use Rattle.nr_linked.specs.Slots.{slots_of}
+use Rattle.nr_linked.specs.TypingFacts.{is_makeable}
 use Rattle.nr_heap.specs.declared.value.Value.{Value}
 use Rattle.nr_heap.specs.Heaps.{Obj, Heap, on_some}
 use Rattle.nr_typed.specs.Types.{Ty, Anything, kept_ty}

@@ -1,14 +1,14 @@
 -- Types of values: what a local variable, an operand or a slot of an object may hold.
 use Rattle.std.specs.Prelude.{ℕ, zero, suc, List, [], ◌∷◌, ◌++◌, reverse, if◌then◌else◌}
-use Rattle.nr_prog.specs.declared.program.kind.Base.{Base}
-use Rattle.nr_prog.specs.declared.program.kind.Base.TheVariants as bases
-use Rattle.nr_prog.specs.declared.program.kind.Kind.{Kind}
-use Rattle.nr_prog.specs.declared.program.tables.MethodInfo.{MethodInfo}
-use Rattle.nr_prog.specs.declared.program.types.VType.{VType}
-use Rattle.nr_prog.specs.declared.program.types.VType.TheVariants as types
+use Rattle.nr_linked.specs.declared.program.kind.Base.{Base}
+use Rattle.nr_linked.specs.declared.program.kind.Base.TheVariants as bases
+use Rattle.nr_linked.specs.declared.program.kind.Kind.{Kind}
+use Rattle.nr_linked.specs.declared.program.tables.MethodInfo.{MethodInfo}
+use Rattle.nr_linked.specs.declared.program.types.VType.{VType}
+use Rattle.nr_linked.specs.declared.program.types.VType.TheVariants as types
 use Rattle.nr_prog.specs.Members.{is_static}
-use Rattle.nr_prog.specs.Kinds.{class_kind, is_reference}
-use Rattle.nr_prog.specs.TypingCalls.{class_made_at}
+use Rattle.nr_linked.specs.Kinds.{class_kind, is_reference}
+use Rattle.nr_linked.specs.TypingCalls.{class_made_at}
 use Rattle.nr_heap.specs.Heaps.{on_some}
 
 pub data Ty : Type 0 where

@@ -1,10 +1,10 @@
 -- States that agree in what the program can use: a local variable or an operand is usable where its type in the
 -- verifier's frame there isn't Top. (The project's own.)
 use Rattle.std.specs.Prelude.{◌≡◌, ℕ, ◌-◌, ◌⊎◌, List, [], ◌∷◌, length, drop, Option, Some, slice_get}
-use Rattle.nr_prog.specs.declared.program.tables.ProgramTables.{ProgramTables}
-use Rattle.nr_prog.specs.Programs.{method_at}
-use Rattle.nr_prog.specs.TypingFrames.{TypeFrame}
-use Rattle.nr_prog.specs.WellTyped.{frame_at}
+use Rattle.nr_linked.specs.declared.program.tables.ProgramTables.{ProgramTables}
+use Rattle.nr_linked.specs.Programs.{method_at}
+use Rattle.nr_linked.specs.TypingFrames.{TypeFrame}
+use Rattle.nr_linked.specs.WellTyped.{frame_at}
 use Rattle.nr_heap.specs.declared.value.Value.{Value}
 use Rattle.nr_heap.specs.Heaps.{on_some}
 use Rattle.nr_heap.specs.States.{Frame, Control, Running, Returned, Thrown, State}

@@ -9,13 +9,13 @@ use Rattle.std.specs.Fmt.{digits}
 use Rattle.std.specs.Char.{encode_utf8}
 use Rattle.nr_optable.specs.Rows.{all_rows}
 use Rattle.nr_prog.specs.declared.body.instruction.Args.TheVariants as args
-use Rattle.nr_prog.specs.declared.program.built_in.BuiltIn.TheVariants.{AbstractMethodError, ArithmeticException, ClassCastException, IncompatibleClassChangeError, NullPointerException, Object, RuntimeException}
-use Rattle.nr_prog.specs.declared.program.kind.Base.TheVariants as bases
-use Rattle.nr_prog.specs.declared.program.tables.ProgramTables.{ProgramTables}
-use Rattle.nr_prog.specs.declared.program.tables.Resolved.TheVariants as resolved
-use Rattle.nr_prog.specs.BuiltIns.{built_in_class}
-use Rattle.nr_prog.specs.BuiltInTables.{built_in_infos, built_in_info, built_in_methods, built_in_method}
-use Rattle.nr_prog.specs.Kinds.{class_kind}
+use Rattle.nr_linked.specs.declared.program.built_in.BuiltIn.TheVariants.{AbstractMethodError, ArithmeticException, ClassCastException, IncompatibleClassChangeError, NullPointerException, Object, RuntimeException}
+use Rattle.nr_linked.specs.declared.program.kind.Base.TheVariants as bases
+use Rattle.nr_linked.specs.declared.program.tables.ProgramTables.{ProgramTables}
+use Rattle.nr_linked.specs.declared.program.tables.Resolved.TheVariants as resolved
+use Rattle.nr_linked.specs.BuiltIns.{built_in_class}
+use Rattle.nr_linked.specs.BuiltInTables.{built_in_infos, built_in_info, built_in_methods, built_in_method}
+use Rattle.nr_linked.specs.Kinds.{class_kind}
 use Rattle.nr_heap.specs.declared.value.Value.{Value}
 use Rattle.nr_heap.specs.declared.value.Value.TheVariants.{Int, Null, Ref}
 use Rattle.nr_heap.specs.Heaps.{Obj, Heap}

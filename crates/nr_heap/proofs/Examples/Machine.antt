@@ -18,19 +18,19 @@ use Rattle.nr_prog.specs.declared.body.instruction.Args.TheVariants as args
 use Rattle.nr_prog.specs.declared.body.instruction.Instr.{Instr}
 use Rattle.nr_prog.specs.declared.body.whole.Body.{Body}
 use Rattle.nr_prog.specs.declared.member.Handler.{Handler}
-use Rattle.nr_prog.specs.declared.program.kind.Base.{Base}
-use Rattle.nr_prog.specs.declared.program.kind.Base.TheVariants as bases
-use Rattle.nr_prog.specs.declared.program.kind.Kind.{Kind}
-use Rattle.nr_prog.specs.declared.program.tables.ClassInfo.{ClassInfo}
-use Rattle.nr_prog.specs.declared.program.tables.MethodInfo.{MethodInfo}
-use Rattle.nr_prog.specs.declared.program.tables.ProgramTables.{ProgramTables}
-use Rattle.nr_prog.specs.declared.program.tables.Resolved.{Resolved}
-use Rattle.nr_prog.specs.declared.program.tables.Resolved.TheVariants as resolved
-use Rattle.nr_prog.specs.declared.program.tables.SlotInfo.{SlotInfo}
-use Rattle.nr_prog.specs.BuiltInTables.{built_in_infos, built_in_methods}
-use Rattle.nr_prog.specs.BuiltIns.{number}
-use Rattle.nr_prog.specs.declared.program.built_in.BuiltIn.{BuiltIn}
-use Rattle.nr_prog.specs.Kinds.{class_kind}
+use Rattle.nr_linked.specs.declared.program.kind.Base.{Base}
+use Rattle.nr_linked.specs.declared.program.kind.Base.TheVariants as bases
+use Rattle.nr_linked.specs.declared.program.kind.Kind.{Kind}
+use Rattle.nr_linked.specs.declared.program.tables.ClassInfo.{ClassInfo}
+use Rattle.nr_linked.specs.declared.program.tables.MethodInfo.{MethodInfo}
+use Rattle.nr_linked.specs.declared.program.tables.ProgramTables.{ProgramTables}
+use Rattle.nr_linked.specs.declared.program.tables.Resolved.{Resolved}
+use Rattle.nr_linked.specs.declared.program.tables.Resolved.TheVariants as resolved
+use Rattle.nr_linked.specs.declared.program.tables.SlotInfo.{SlotInfo}
+use Rattle.nr_linked.specs.BuiltInTables.{built_in_infos, built_in_methods}
+use Rattle.nr_linked.specs.BuiltIns.{number}
+use Rattle.nr_linked.specs.declared.program.built_in.BuiltIn.{BuiltIn}
+use Rattle.nr_linked.specs.Kinds.{class_kind}
 use Rattle.nr_heap.specs.declared.value.Value.{Value}
 use Rattle.nr_heap.specs.declared.value.Value.TheVariants.{Ref}
 use Rattle.nr_heap.specs.Heaps.{Obj, Heap}

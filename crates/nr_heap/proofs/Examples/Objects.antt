@@ -5,11 +5,11 @@ use Rattle.std.specs.Int.{int_wrap}
 use Rattle.std.specs.FinMap.{get}
 use Rattle.nr_optable.specs.Rows.{all_rows}
 use Rattle.nr_prog.specs.declared.body.instruction.Args.TheVariants as args
-use Rattle.nr_prog.specs.declared.program.built_in.BuiltIn.TheVariants.{ClassCastException, NullPointerException}
-use Rattle.nr_prog.specs.declared.program.tables.Resolved.TheVariants as resolved
-use Rattle.nr_prog.specs.BuiltIns.{built_in_class}
-use Rattle.nr_prog.specs.BuiltInTables.{built_in_infos, built_in_info, built_in_methods, built_in_method}
-use Rattle.nr_prog.specs.Kinds.{class_kind}
+use Rattle.nr_linked.specs.declared.program.built_in.BuiltIn.TheVariants.{ClassCastException, NullPointerException}
+use Rattle.nr_linked.specs.declared.program.tables.Resolved.TheVariants as resolved
+use Rattle.nr_linked.specs.BuiltIns.{built_in_class}
+use Rattle.nr_linked.specs.BuiltInTables.{built_in_infos, built_in_info, built_in_methods, built_in_method}
+use Rattle.nr_linked.specs.Kinds.{class_kind}
 use Rattle.nr_heap.specs.declared.value.Value.{Value}
 use Rattle.nr_heap.specs.declared.value.Value.TheVariants.{Int, Null, Ref}
 use Rattle.nr_heap.specs.Heaps.{Obj, Heap}

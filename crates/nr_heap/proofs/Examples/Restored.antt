@@ -11,7 +11,7 @@ use Rattle.nr_heap.specs.States.{Returned, State}
 use Rattle.nr_heap.specs.Alike.{like_int, like_null, like_ref, no_more, one_more, AlikeObj, AlikeAt, alike_at, no_frame, one_frame, no_result, both_run}
 use Rattle.nr_heap.specs.Pairs.{name_at, slot_name, IsPair, Listed, StartOf, PairedStates}
 use Rattle.nr_heap.proofs.Matchings.{Matched, AlikeState}
-use Rattle.nr_prog.specs.declared.program.tables.ProgramTables.{ProgramTables}
+use Rattle.nr_linked.specs.declared.program.tables.ProgramTables.{ProgramTables}
 use Rattle.nr_heap.specs.Steps.{Step, Run}
 use Rattle.nr_heap.specs.Same.{Same}
 use Rattle.nr_heap.specs.LocalEntries.{BackAndResults, RestoresPairs}
@@ -21,8 +21,8 @@ use Rattle.std.specs.Ordering.{nat_cmp}
 use Rattle.std.proofs.Math.Decide.{ℕ_discrete}
 use Rattle.nr_optable.specs.Rows.{all_rows}
 use Rattle.nr_prog.specs.declared.body.instruction.Args.TheVariants as args
-use Rattle.nr_prog.specs.declared.program.kind.Base.TheVariants as bases
-use Rattle.nr_prog.specs.declared.program.tables.Resolved.TheVariants as resolved
+use Rattle.nr_linked.specs.declared.program.kind.Base.TheVariants as bases
+use Rattle.nr_linked.specs.declared.program.tables.Resolved.TheVariants as resolved
 use Rattle.nr_heap.proofs.Heaps.{get_same, get_other, sum_left}
 use Rattle.nr_heap.proofs.Paths.{none_some, path_matched, matched_paired}
 use Rattle.nr_heap.proofs.Kept.{states_pair, control_names}

@@ -4,8 +4,8 @@ use Rattle.std.specs.Prelude.{pos, Some, None, false, nat_lt, if◌then◌else�
 use Rattle.std.specs.Int.{int_wrap}
 use Rattle.nr_optable.specs.Rows.{all_rows}
 use Rattle.nr_prog.specs.declared.body.instruction.Args.TheVariants as args
-use Rattle.nr_prog.specs.declared.program.tables.ProgramTables.{ProgramTables}
-use Rattle.nr_prog.specs.declared.program.tables.Resolved.TheVariants as resolved
+use Rattle.nr_linked.specs.declared.program.tables.ProgramTables.{ProgramTables}
+use Rattle.nr_linked.specs.declared.program.tables.Resolved.TheVariants as resolved
 use Rattle.nr_heap.specs.declared.value.Value.{Value}
 use Rattle.nr_heap.specs.declared.value.Value.TheVariants.{Int}
 use Rattle.nr_heap.specs.Heaps.{Heap, cells}

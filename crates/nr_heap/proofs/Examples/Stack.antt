@@ -3,7 +3,7 @@ use Rattle.std.proofs.Common.{ℕ, List, [], ◌∷◌, ◌++◌, refl, arith}
 use Rattle.std.specs.Prelude.{pos, negsuc}
 use Rattle.nr_optable.specs.Rows.{all_rows}
 use Rattle.nr_prog.specs.declared.body.instruction.Args.TheVariants as args
-use Rattle.nr_prog.specs.declared.program.tables.Resolved.TheVariants as resolved
+use Rattle.nr_linked.specs.declared.program.tables.Resolved.TheVariants as resolved
 use Rattle.nr_heap.specs.declared.value.Value.{Value}
 use Rattle.nr_heap.specs.declared.value.Value.TheVariants.{Int, Long, Null, Ref}
 use Rattle.nr_heap.specs.Heaps.{Heap}

@@ -5,10 +5,10 @@ use Rattle.std.specs.Prelude.{pos, neg_ℤ}
 use Rattle.std.specs.Int.{int_wrap}
 use Rattle.nr_optable.specs.Rows.{all_rows}
 use Rattle.nr_prog.specs.declared.body.instruction.Args.TheVariants as args
-use Rattle.nr_prog.specs.declared.program.built_in.BuiltIn.TheVariants.{ArithmeticException}
-use Rattle.nr_prog.specs.declared.program.tables.Resolved.TheVariants as resolved
-use Rattle.nr_prog.specs.BuiltIns.{built_in_class}
-use Rattle.nr_prog.specs.BuiltInTables.{built_in_infos, built_in_info}
+use Rattle.nr_linked.specs.declared.program.built_in.BuiltIn.TheVariants.{ArithmeticException}
+use Rattle.nr_linked.specs.declared.program.tables.Resolved.TheVariants as resolved
+use Rattle.nr_linked.specs.BuiltIns.{built_in_class}
+use Rattle.nr_linked.specs.BuiltInTables.{built_in_infos, built_in_info}
 use Rattle.nr_heap.specs.declared.value.Value.{Value}
 use Rattle.nr_heap.specs.declared.value.Value.TheVariants.{Int, Long, Null, Ref}
 use Rattle.nr_heap.specs.Heaps.{Heap}

@@ -1,7 +1,7 @@
 //! Outcomes of runs within a budget and limits.
 
 ghost use Rattle.std.specs.Prelude.{◌≡◌, ◌≤◌, ℕ, List};
-ghost use Rattle.nr_prog.specs.declared.program.tables.ProgramTables.{ProgramTables};
+ghost use Rattle.nr_linked.specs.declared.program.tables.ProgramTables.{ProgramTables};
 ghost use Rattle.nr_heap.specs.declared.value.Value.{Value};
 ghost use Rattle.nr_heap.specs.Heaps.{Heap, cells};
 ghost use Rattle.nr_heap.specs.States.{IsEnd, State};

@@ -1,7 +1,7 @@
 //! A run over other frames.
 
 ghost use Rattle.std.specs.Prelude.{◌≡◌, ℕ, List, Some};
-ghost use Rattle.nr_prog.specs.declared.program.tables.ProgramTables.{ProgramTables};
+ghost use Rattle.nr_linked.specs.declared.program.tables.ProgramTables.{ProgramTables};
 ghost use Rattle.nr_heap.specs.States.{Control, Frame, State};
 ghost use Rattle.nr_heap.specs.Steps.{Run};
 ghost use Rattle.nr_heap.specs.Overs.{over, with_front};

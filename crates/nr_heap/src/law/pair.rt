@@ -1,7 +1,7 @@
 //! Runs of two machines that agree but for the names of objects.
 
 ghost use Rattle.std.specs.Prelude.{◌≡◌, ℕ, List};
-ghost use Rattle.nr_prog.specs.declared.program.tables.ProgramTables.{ProgramTables};
+ghost use Rattle.nr_linked.specs.declared.program.tables.ProgramTables.{ProgramTables};
 ghost use Rattle.nr_heap.specs.States.{IsEnd, State};
 ghost use Rattle.nr_heap.specs.Steps.{Run};
 ghost use Rattle.nr_heap.specs.Pairs.{PairedStates};

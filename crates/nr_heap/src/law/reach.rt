@@ -2,7 +2,7 @@
 
 ghost use Rattle.std.specs.Prelude.{◌≡◌, ◌≢◌, ℕ, Option, None};
 ghost use Rattle.std.specs.FinMap.{get};
-ghost use Rattle.nr_prog.specs.declared.program.tables.ProgramTables.{ProgramTables};
+ghost use Rattle.nr_linked.specs.declared.program.tables.ProgramTables.{ProgramTables};
 ghost use Rattle.nr_heap.specs.States.{State};
 ghost use Rattle.nr_heap.specs.Steps.{Run};
 ghost use Rattle.nr_heap.specs.Pairs.{NamedIn, Reach};

@@ -1,7 +1,7 @@
 //! Runs with remote calls beside runs of one machine.
 
 ghost use Rattle.std.specs.Prelude.{◌≡◌, ℕ, Bool, List, Option};
-ghost use Rattle.nr_prog.specs.declared.program.tables.ProgramTables.{ProgramTables};
+ghost use Rattle.nr_linked.specs.declared.program.tables.ProgramTables.{ProgramTables};
 ghost use Rattle.nr_heap.specs.States.{IsEnd, State};
 ghost use Rattle.nr_heap.specs.Steps.{Run};
 ghost use Rattle.nr_heap.specs.Asks.{AskRun, Entry};

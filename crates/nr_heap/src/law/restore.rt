@@ -2,7 +2,7 @@
 
 ghost use Rattle.std.specs.Prelude.{◌≡◌, ◌≢◌, ℕ, List, Option, Some, None};
 ghost use Rattle.std.specs.FinMap.{get};
-ghost use Rattle.nr_prog.specs.declared.program.tables.ProgramTables.{ProgramTables};
+ghost use Rattle.nr_linked.specs.declared.program.tables.ProgramTables.{ProgramTables};
 ghost use Rattle.nr_heap.specs.declared.value.Value.{Value};
 ghost use Rattle.nr_heap.specs.Heaps.{Heap};
 ghost use Rattle.nr_heap.specs.States.{Returned, State};

@@ -1,8 +1,8 @@
 //! States in other heaps.
 
 ghost use Rattle.std.specs.Prelude.{ℕ, List};
-ghost use Rattle.nr_prog.specs.declared.program.tables.ProgramTables.{ProgramTables};
-ghost use Rattle.nr_prog.specs.TypingFrames.{TypeFrame};
+ghost use Rattle.nr_linked.specs.declared.program.tables.ProgramTables.{ProgramTables};
+ghost use Rattle.nr_linked.specs.TypingFrames.{TypeFrame};
 ghost use Rattle.nr_heap.specs.Heaps.{Heap};
 ghost use Rattle.nr_heap.specs.States.{State};
 ghost use Rattle.nr_typed.specs.Standing.{StandsIn, with_heap};

@@ -1,7 +1,7 @@
 //! That the premises of the laws can be met.
 
-ghost use Rattle.nr_prog.specs.TypingFacts.{TypingFacts};
-ghost use Rattle.nr_prog.specs.WellTyped.{WellTyped};
+ghost use Rattle.nr_linked.specs.TypingFacts.{TypingFacts};
+ghost use Rattle.nr_linked.specs.WellTyped.{WellTyped};
 ghost use Rattle.nr_typed.specs.Example.{example};
 
 /// Promises that the premises of the laws can be met: a program with two classes, an interface, an

@@ -1,9 +1,9 @@
 //! Progress and preservation.
 
 ghost use Rattle.std.specs.Prelude.{ℕ};
-ghost use Rattle.nr_prog.specs.declared.program.tables.ProgramTables.{ProgramTables};
-ghost use Rattle.nr_prog.specs.TypingFacts.{TypingFacts};
-ghost use Rattle.nr_prog.specs.WellTyped.{WellTyped};
+ghost use Rattle.nr_linked.specs.declared.program.tables.ProgramTables.{ProgramTables};
+ghost use Rattle.nr_linked.specs.TypingFacts.{TypingFacts};
+ghost use Rattle.nr_linked.specs.WellTyped.{WellTyped};
 ghost use Rattle.nr_heap.specs.States.{IsEnd, State};
 ghost use Rattle.nr_heap.specs.Steps.{Run, Step};
 ghost use Rattle.nr_typed.specs.Standing.{StandsIn};

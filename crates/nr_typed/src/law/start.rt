@@ -2,11 +2,11 @@
 
 ghost use Rattle.std.specs.Prelude.{◌≡◌, ℕ, List, Some};
 ghost use Rattle.nr_prog.specs.declared.body.whole.Body.{Body};
-ghost use Rattle.nr_prog.specs.declared.program.tables.MethodInfo.{MethodInfo};
-ghost use Rattle.nr_prog.specs.declared.program.tables.ProgramTables.{ProgramTables};
-ghost use Rattle.nr_prog.specs.Programs.{method_at};
-ghost use Rattle.nr_prog.specs.TypingFacts.{TypingFacts};
-ghost use Rattle.nr_prog.specs.WellTyped.{WellTyped};
+ghost use Rattle.nr_linked.specs.declared.program.tables.MethodInfo.{MethodInfo};
+ghost use Rattle.nr_linked.specs.declared.program.tables.ProgramTables.{ProgramTables};
+ghost use Rattle.nr_linked.specs.Programs.{method_at};
+ghost use Rattle.nr_linked.specs.TypingFacts.{TypingFacts};
+ghost use Rattle.nr_linked.specs.WellTyped.{WellTyped};
 ghost use Rattle.nr_heap.specs.declared.value.Value.{Value};
 ghost use Rattle.nr_heap.specs.Heaps.{Heap};
 ghost use Rattle.nr_typed.specs.Belonging.{Belong};

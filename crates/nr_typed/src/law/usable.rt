@@ -1,9 +1,9 @@
 //! Runs of two machines that agree in what the program can use.
 
 ghost use Rattle.std.specs.Prelude.{◌≡◌, ℕ, List};
-ghost use Rattle.nr_prog.specs.declared.program.tables.ProgramTables.{ProgramTables};
-ghost use Rattle.nr_prog.specs.TypingFacts.{TypingFacts};
-ghost use Rattle.nr_prog.specs.WellTyped.{WellTyped};
+ghost use Rattle.nr_linked.specs.declared.program.tables.ProgramTables.{ProgramTables};
+ghost use Rattle.nr_linked.specs.TypingFacts.{TypingFacts};
+ghost use Rattle.nr_linked.specs.WellTyped.{WellTyped};
 ghost use Rattle.nr_heap.specs.States.{IsEnd, State};
 ghost use Rattle.nr_heap.specs.Steps.{Run, Step};
 ghost use Rattle.nr_heap.specs.Pairs.{PairedStates};

@@ -1,0 +1,19 @@
+use Rattle.std.proofs.Common.{rules, refl, sym, ap, find, ◌∙◌}
+use Rattle.std.proofs.lemmas.Iterator.{YieldsList-from_range}
+use Rattle.std.proofs.lemmas.Iterator.Search.{find_from_yields_List}
+use Rattle.nr_linked.specs.Programs.{methods_of}
+use Rattle.nr_linked.specs.Selection.{is_static_at, is_static_called}
+use Rattle.nr_linked.proofs.Places.{found_within}
+use Rattle.nr_linked.proofs.Upward.{option_itself}
+use Rattle.nr_linked.proofs.program.tables.ProgramTables.static_named.Goals as goal
+
+pub returns : goal.returns
+returns c =
+    let named = sym (option_itself c.find.result)
+    ∙ find_from_yields_List (is_static_at c.args.self.now c.args.name.now c.args.desc.now) _ _ c.find.result c.find.ensures.ran
+    (YieldsList-from_range c.methods_of-start.result.start c.methods_of-start.result.end _ refl refl) (λ x b q k. search rules)
+    ∙ ap (find (is_static_at c.args.self.now c.args.name.now c.args.desc.now)) c.methods_of-start.ensures in
+    record {
+      named = named;
+      within = found_within (is_static_called c.args.name.now c.args.desc.now) c.args.self.now.methods (methods_of c.args.self.now c.args.class) c.find.result named;
+    }

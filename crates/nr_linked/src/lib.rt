@@ -1,0 +1,11 @@
+//! Linked programs as tables, and the typing of their instructions (JVM Specification 4.10.1, 5.4).
+#![tactic(auto)]
+
+mod program;
+mod typing;
+
+pub use program::{
+    Base, BuiltIn, ClassId, ClassInfo, Kind, MethodId, MethodInfo, Program, ProgramTables,
+    Resolved, SlotInfo, VFrame, VType, built_ins_are_linked,
+};
+pub use typing::{OpFault, Verified, Wanted};
