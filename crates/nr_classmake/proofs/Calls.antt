@@ -3,6 +3,7 @@ use Rattle.std.proofs.Common.{◌≡◌, ℕ, Bool, true, List, [], ◌∷◌, �
 use Rattle.std.specs.Prelude.{ℤ, codes}
 use Rattle.std.specs.List.{flat_map, filter_map, cons_option}
 use Rattle.std.proofs.lemmas.List.{append-nil}
+use Rattle.std.proofs.lemmas.List.Sums.{fold_push}
 use Rattle.nr_prog.specs.declared.parts.ClassParts.{ClassParts}
 use Rattle.nr_classmake.specs.Making.{and_then, nothing, class_ref, is_long_desc, field, method}
 use Rattle.nr_classmake.specs.Items.{Item, Text, ClassNamed, class_items, with_parts, place_of, pool_of}
@@ -182,6 +183,13 @@ after_laid name super flags calls =
 pub class_made : (name super : List ℕ) (flags : ℕ) (calls : List Call) → after calls (new_parts name super flags) ≡ class_of_calls name super flags calls
 class_made name super flags calls = after_laid name super flags calls ∙ ap (class_over name super flags calls) (once_by_adds (raw_of name super calls))
 
+pub class_next : (name super : List ℕ) (flags : ℕ) (calls : List Call) (call : Call)
+    → after_call call (class_of_calls name super flags calls) ≡ class_of_calls name super flags (calls ++ call ∷ [])
+class_next name super flags calls call =
+    ap (after_call call) (sym (class_made name super flags calls))
+    ∙ sym (fold_push (λ c k. after_call k c) (new_parts name super flags) calls call)
+    ∙ class_made name super flags (calls ++ call ∷ [])
+
 -- ---- places that calls give
 
 flat_map-append : (f : Call → List Item) (xs ys : List Call) → flat_map f (xs ++ ys) ≡ flat_map f xs ++ flat_map f ys
@@ -196,11 +204,11 @@ raw_more name super calls more item =
     ∙ adds_both (adds (start name super) (flat_map named calls)) (with_parts item) (flat_map named more)
 
 pub place_made : (name super : List ℕ) (flags : ℕ) (calls more : List Call) (item : Item)
-    → place_in (after calls (new_parts name super flags)) item ≡ place_of item (items_of name super (calls ++ Place item ∷ more))
+    → place_in (class_of_calls name super flags calls) item ≡ place_of item (items_of name super (calls ++ Place item ∷ more))
 place_made name super flags calls more item =
     let all = adds [] (raw_of name super calls) in
     let closed = closed_adds (start name super) (flat_map named calls) (start_closed name super) (calls_follow (start name super) calls) in
-    ap (λ c. place_in c item) (after_laid name super flags calls)
+    ap (λ items. place_in (class_over name super flags calls items) item) (sym (once_by_adds (raw_of name super calls)))
     ∙ ap (λ m. m.1) (item_laid all item closed)
     ∙ sym (place_adds item (adds all (with_parts item)) (flat_map named more) (item_has all item))
     ∙ ap (place_of item) (sym (raw_more name super calls more item) ∙ once_by_adds (raw_of name super (calls ++ Place item ∷ more)))

@@ -8,3 +8,4 @@ pub mod Once
 pub mod Pools
 pub mod Adding
 pub mod Calls
+pub mod Entries

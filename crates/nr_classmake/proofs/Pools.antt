@@ -98,7 +98,7 @@ never_unused items (InterfaceMethodOf a b c) = refl
 
 -- ---- the entries of some items, where all stand as in the pool of others
 
-abbrev laid : List Item → List Item → List PoolEntry
+abbrev pub laid : List Item → List Item → List PoolEntry
 laid items xs = flat_map (λ x. spread (entry_in items x)) xs
 
 one_more : (b : Bool) (o : Option ℕ) → cond b (Some zero) (option_map suc o) ≡ cond b (Some zero) (option_map (λ n. 1 + n) o)
