@@ -2,8 +2,10 @@
 #![tactic(auto)]
 
 mod fault;
+mod law;
 mod maker;
 mod pool;
 
 pub use fault::MakeFault;
+pub use law::calls_make_the_class;
 pub use maker::ClassMaker;
