@@ -3,365 +3,313 @@
 use crate::{Class, ClassParts, Code, Field, FormFault, Handler, Method, PoolEntry};
 use nr_base::Items;
 use std::alloc::{AllocError, Global};
+use std::process::Abort;
 use std::test::Fail;
 
-// An entry of the pool.
-#[derive(Clone, Copy)]
-enum Tag {
-    Text(&'static str),
-    Bytes(&'static [u8]),
-    Integer,
-    Float,
-    Long,
-    Double,
-    Class(u16),
-    Str(u16),
-    FieldRef(u16, u16),
-    MethodRef(u16, u16),
-    InterfaceMethodRef(u16, u16),
-    NameAndType(u16, u16),
-    Unused,
+// The constant pool of a class that keeps the form: the index of each entry, its tag (JVM
+// Specification, table 4.4-A), which is 0 for the place after a long or a double, and the indices
+// or the text of some. The text `*` is the letter a and a zero, which no name has.
+const POOL: &str = "\
+1 1 demo/A
+2 7 1
+3 1 java/lang/Object
+4 7 3
+5 1 I
+6 3
+7 1 J
+8 5
+9 0
+10 1 Ljava/lang/String;
+11 8 1
+12 1 m
+13 1 ()V
+14 1 <init>
+15 1 ()I
+16 12 12 13
+17 10 2 16
+18 9 2 16
+19 11 4 16
+20 4
+21 6
+22 0
+23 1 m
+24 1 *
+25 1 F
+";
+
+// What is other than in that class, and the first fault of its form. A number gives the entry at an
+// index, which may come after the last one; `field` and `method` give one more: its flags, its name,
+// its descriptor, and the constant value or the length of the code.
+const CASES: &str = "\
+nothing = formed
+9 3 = PoolKind 8
+8 3 = PoolKind 9
+22 5 = PoolKind 21
+1 0 = PoolKind 1
+26 6 = PoolKind 26
+26 7 0 = PoolKind 26
+26 7 2 = PoolKind 26
+26 7 27 = PoolKind 26
+11 8 6 = PoolKind 11
+18 9 16 16 = PoolKind 18
+17 10 2 2 = PoolKind 17
+19 11 1 16 = PoolKind 19
+16 12 12 2 = PoolKind 16
+26 7 24 = formed
+this 0 = BadName 0
+this 1 = BadName 1
+super 0 = PoolKind 0
+super 16 = BadName 16
+interface 4 = formed
+interface 6 = BadName 6
+1 1 demo//A = BadName 2
+3 1 [I = BadName 4
+3 1 * = BadName 4
+field 0 12 7 8 = formed
+field 0 5 5 0 = formed
+field 0 6 5 0 = BadName 6
+field 0 3 5 0 = BadName 3
+field 0 24 5 0 = BadName 24
+field 0 5 12 0 = BadDesc 12
+field 0 5 25 0 = BadDesc 25
+field 0 5 13 0 = BadDesc 13
+field 0 23 5 0 = Doubled 23
+field 0 5 5 8 = PoolKind 8
+field 0 5 7 6 = PoolKind 6
+field 0 5 10 11 = formed
+field 0 5 10 1 = PoolKind 1
+field 0 5 5 26 = PoolKind 26
+method 0 23 15 1 = formed
+method 0 3 13 1 = BadName 3
+method 0 5 5 1 = BadDesc 5
+method 0 23 13 1 = Doubled 23
+method 256 5 13 - = OutOfProfile 1
+method 32 5 13 1 = OutOfProfile 1
+method 1032 5 13 - = OutOfProfile 1
+method 0 14 13 1 = formed
+method 8 14 13 1 = OutOfProfile 1
+method 1024 14 13 - = OutOfProfile 1
+method 0 14 15 1 = OutOfProfile 1
+method 0 5 13 0 = OutOfProfile 1
+method 0 5 13 65535 = formed
+method 0 5 13 65536 = OutOfProfile 1
+method 1024 5 13 - = formed
+method 1024 5 13 1 = CodePresence 1
+method 0 5 13 - = CodePresence 1
+";
+
+fn part(text: &str, mark: char, place: usize) -> &str {
+    text.split(mark).nth(place).unwrap_or("")
 }
 
-// A method whose code, where it has some, has so many bytes.
-#[derive(Clone, Copy)]
-struct Shape {
-    flags: u16,
-    name: u16,
-    desc: u16,
-    code: Option<usize>,
+fn word(row: &str, place: usize) -> &str {
+    part(row, ' ', place)
 }
 
-// What is other than in the class that keeps the form.
-#[derive(Clone, Copy)]
-enum Change {
-    Nothing,
-    // The entry at an index.
-    Pool(usize, Tag),
-    // One more entry, at index 26.
-    MorePool(Tag),
-    This(u16),
-    Above(u16),
-    Interface(u16),
-    // A field behind the first.
-    MoreField(Field),
-    // A method behind the first.
-    MoreMethod(Shape),
+// The number at a place of a row, or none for anything else.
+fn listed(row: &str, place: usize) -> Option<u32> {
+    word(row, place).parse::<u32>().ok()
 }
 
-const POOL: [Tag; 25] = [
-    Tag::Text("demo/A"),
-    Tag::Class(1),
-    Tag::Text("java/lang/Object"),
-    Tag::Class(3),
-    Tag::Text("I"),
-    Tag::Integer,
-    Tag::Text("J"),
-    Tag::Long,
-    Tag::Unused,
-    Tag::Text("Ljava/lang/String;"),
-    Tag::Str(1),
-    Tag::Text("m"),
-    Tag::Text("()V"),
-    Tag::Text("<init>"),
-    Tag::Text("()I"),
-    Tag::NameAndType(12, 13),
-    Tag::MethodRef(2, 16),
-    Tag::FieldRef(2, 16),
-    Tag::InterfaceMethodRef(4, 16),
-    Tag::Float,
-    Tag::Double,
-    Tag::Unused,
-    // The name `m` once more.
-    Tag::Text("m"),
-    // No names and no descriptors: a zero, and a float.
-    Tag::Bytes(b"a\xC0\x80"),
-    Tag::Text("F"),
-];
-
-const FIELD: Field = Field {
-    flags: 0x0008,
-    name: 12,
-    desc: 5,
-    constant: 6,
-};
-
-const METHOD: Shape = Shape {
-    flags: 0x0001,
-    name: 12,
-    desc: 13,
-    code: Some(1),
-};
-
-fn pool_entry(alloc: Global, tag: Tag) -> Result<PoolEntry, AllocError> {
-    Ok(match tag {
-        Tag::Text(text) => PoolEntry::Utf8(Items::of(alloc, text.as_bytes())?),
-        Tag::Bytes(bytes) => PoolEntry::Utf8(Items::of(alloc, bytes)?),
-        Tag::Integer => PoolEntry::Integer(7),
-        Tag::Float => PoolEntry::Float(0),
-        Tag::Long => PoolEntry::Long(7),
-        Tag::Double => PoolEntry::Double(0),
-        Tag::Class(name) => PoolEntry::Class(name),
-        Tag::Str(text) => PoolEntry::Str(text),
-        Tag::FieldRef(class, member) => PoolEntry::FieldRef(class, member),
-        Tag::MethodRef(class, member) => PoolEntry::MethodRef(class, member),
-        Tag::InterfaceMethodRef(class, member) => PoolEntry::InterfaceMethodRef(class, member),
-        Tag::NameAndType(name, desc) => PoolEntry::NameAndType(name, desc),
-        Tag::Unused => PoolEntry::Unused,
-    })
+fn number(row: &str, place: usize) -> u16 {
+    word(row, place).parse::<u16>().unwrap_or(0)
 }
 
-fn pool(alloc: Global, change: Change) -> Result<Items<PoolEntry>, AllocError> {
-    let mut pool = Items::new(alloc);
-    for (place, listed) in POOL.iter().enumerate() {
-        let this = match change {
-            Change::Pool(index, other) if index == place + 1 => other,
-            _ => *listed,
-        };
-        pool.push(pool_entry(alloc, this)?)?;
+fn text(alloc: Global, text: &str) -> Result<PoolEntry, AllocError> {
+    let bytes = if text == "*" {
+        b"a\xC0\x80".as_slice()
+    } else {
+        text.as_bytes()
+    };
+    Ok(PoolEntry::Utf8(Items::of(alloc, bytes)?))
+}
+
+fn plain(tag: u16, first: u16, second: u16) -> PoolEntry {
+    match tag {
+        3 => PoolEntry::Integer(7),
+        4 => PoolEntry::Float(0),
+        5 => PoolEntry::Long(7),
+        6 => PoolEntry::Double(0),
+        7 => PoolEntry::Class(first),
+        8 => PoolEntry::Str(first),
+        9 => PoolEntry::FieldRef(first, second),
+        10 => PoolEntry::MethodRef(first, second),
+        11 => PoolEntry::InterfaceMethodRef(first, second),
+        12 => PoolEntry::NameAndType(first, second),
+        _ => PoolEntry::Unused,
     }
-    if let Change::MorePool(more) = change {
-        pool.push(pool_entry(alloc, more)?)?;
+}
+
+fn entry(alloc: Global, row: &str) -> Result<PoolEntry, AllocError> {
+    match number(row, 1) {
+        1 => text(alloc, word(row, 2)),
+        tag => Ok(plain(tag, number(row, 2), number(row, 3))),
+    }
+}
+
+fn pool(alloc: Global, change: &str) -> Result<Items<PoolEntry>, AllocError> {
+    let mut pool = Items::new(alloc);
+    for row in POOL.lines() {
+        let row = if word(row, 0) == word(change, 0) {
+            change
+        } else {
+            row
+        };
+        pool.push(entry(alloc, row)?)?;
+    }
+    if word(change, 0) == "26" {
+        pool.push(entry(alloc, change)?)?;
     }
     Ok(pool)
 }
 
-fn method(alloc: Global, shape: Shape) -> Result<Method, AllocError> {
-    let code = match shape.code {
+fn interfaces(alloc: Global, change: &str) -> Result<Items<u16>, AllocError> {
+    let mut interfaces = Items::new(alloc);
+    interfaces.push(2)?;
+    if word(change, 0) == "interface" {
+        interfaces.push(number(change, 1))?;
+    }
+    Ok(interfaces)
+}
+
+fn field(row: &str) -> Field {
+    Field {
+        flags: number(row, 1),
+        name: number(row, 2),
+        desc: number(row, 3),
+        constant: number(row, 4),
+    }
+}
+
+fn fields(alloc: Global, change: &str) -> Result<Items<Field>, AllocError> {
+    let mut fields = Items::new(alloc);
+    fields.push(field("field 8 12 5 6"))?;
+    if word(change, 0) == "field" {
+        fields.push(field(change))?;
+    }
+    Ok(fields)
+}
+
+fn handlers(alloc: Global) -> Result<Items<Handler>, AllocError> {
+    let mut handlers = Items::new(alloc);
+    handlers.push(Handler {
+        start: 0,
+        end: 1,
+        handler: 0,
+        catch_type: 0,
+    })?;
+    Ok(handlers)
+}
+
+fn code(alloc: Global, len: u32) -> Result<Code, AllocError> {
+    let bytes = vec![in alloc; 0; len as usize]?;
+    Ok(Code {
+        max_stack: 1,
+        max_locals: 1,
+        bytes: Items::from_vec(bytes),
+        handlers: handlers(alloc)?,
+        maps: None,
+    })
+}
+
+fn method(alloc: Global, row: &str) -> Result<Method, AllocError> {
+    let code = match listed(row, 4) {
+        Some(len) => Some(code(alloc, len)?),
         None => None,
-        Some(len) => {
-            let mut handlers = Items::new(alloc);
-            handlers.push(Handler {
-                start: 0,
-                end: 1,
-                handler: 0,
-                catch_type: 0,
-            })?;
-            Some(Code {
-                max_stack: 1,
-                max_locals: 1,
-                bytes: Items::from_vec(vec![in alloc; 0; len]?),
-                handlers,
-                maps: None,
-            })
-        }
     };
     Ok(Method {
-        flags: shape.flags,
-        name: shape.name,
-        desc: shape.desc,
+        flags: number(row, 1),
+        name: number(row, 2),
+        desc: number(row, 3),
         code,
     })
 }
 
-fn parts(alloc: Global, change: Change) -> Result<ClassParts, AllocError> {
-    let mut interfaces = Items::new(alloc);
-    interfaces.push(2u16)?;
-    if let Change::Interface(index) = change {
-        interfaces.push(index)?;
-    }
-    let mut fields = Items::new(alloc);
-    fields.push(FIELD)?;
-    if let Change::MoreField(more) = change {
-        fields.push(more)?;
-    }
+fn methods(alloc: Global, change: &str) -> Result<Items<Method>, AllocError> {
     let mut methods = Items::new(alloc);
-    methods.push(method(alloc, METHOD)?)?;
-    if let Change::MoreMethod(more) = change {
-        methods.push(method(alloc, more)?)?;
+    methods.push(method(alloc, "method 1 12 13 1")?)?;
+    if word(change, 0) == "method" {
+        methods.push(method(alloc, change)?)?;
     }
+    Ok(methods)
+}
+
+// The index that the change gives a part, or the one that it has in the class.
+fn changed(change: &str, part: &str, usual: u16) -> u16 {
+    if word(change, 0) == part {
+        number(change, 1)
+    } else {
+        usual
+    }
+}
+
+fn parts(alloc: Global, change: &str) -> Result<ClassParts, AllocError> {
+    let pool = pool(alloc, change)?;
+    let interfaces = interfaces(alloc, change)?;
+    let fields = fields(alloc, change)?;
+    let methods = methods(alloc, change)?;
     Ok(ClassParts {
-        pool: pool(alloc, change)?,
+        pool,
         flags: 0x0021,
-        this_class: if let Change::This(index) = change {
-            index
-        } else {
-            2
-        },
-        super_class: if let Change::Above(index) = change {
-            index
-        } else {
-            4
-        },
+        this_class: changed(change, "this", 2),
+        super_class: changed(change, "super", 4),
         interfaces,
         fields,
         methods,
     })
 }
 
-fn more_field(name: u16, desc: u16, constant: u16) -> Change {
-    Change::MoreField(Field {
-        flags: 0,
-        name,
-        desc,
-        constant,
-    })
-}
-
-fn more_method(flags: u16, name: u16, desc: u16, code: Option<usize>) -> Change {
-    Change::MoreMethod(Shape {
-        flags,
-        name,
-        desc,
-        code,
-    })
-}
-
-#[test]
-fn pool_and_classes(rt: HostRuntime) -> Result<(), Fail> {
-    let alloc = rt.alloc();
-    for (change, fault) in [
-        (Change::Nothing, None),
-        (Change::Pool(9, Tag::Integer), Some(FormFault::PoolKind(8))),
-        (Change::Pool(8, Tag::Integer), Some(FormFault::PoolKind(9))),
-        (Change::Pool(22, Tag::Long), Some(FormFault::PoolKind(21))),
-        (Change::Pool(1, Tag::Unused), Some(FormFault::PoolKind(1))),
-        (Change::MorePool(Tag::Double), Some(FormFault::PoolKind(26))),
-        (
-            Change::MorePool(Tag::Class(0)),
-            Some(FormFault::PoolKind(26)),
-        ),
-        (
-            Change::MorePool(Tag::Class(2)),
-            Some(FormFault::PoolKind(26)),
-        ),
-        (
-            Change::MorePool(Tag::Class(27)),
-            Some(FormFault::PoolKind(26)),
-        ),
-        (Change::Pool(11, Tag::Str(6)), Some(FormFault::PoolKind(11))),
-        (
-            Change::Pool(18, Tag::FieldRef(16, 16)),
-            Some(FormFault::PoolKind(18)),
-        ),
-        (
-            Change::Pool(17, Tag::MethodRef(2, 2)),
-            Some(FormFault::PoolKind(17)),
-        ),
-        (
-            Change::Pool(19, Tag::InterfaceMethodRef(1, 16)),
-            Some(FormFault::PoolKind(19)),
-        ),
-        (
-            Change::Pool(16, Tag::NameAndType(12, 2)),
-            Some(FormFault::PoolKind(16)),
-        ),
-        // An entry that nothing names need not be a name.
-        (Change::MorePool(Tag::Class(24)), None),
-        (Change::This(0), Some(FormFault::BadName(0))),
-        (Change::This(1), Some(FormFault::BadName(1))),
-        (Change::Above(0), Some(FormFault::PoolKind(0))),
-        (Change::Above(16), Some(FormFault::BadName(16))),
-        (Change::Interface(4), None),
-        (Change::Interface(6), Some(FormFault::BadName(6))),
-        (
-            Change::Pool(1, Tag::Text("demo//A")),
-            Some(FormFault::BadName(2)),
-        ),
-        (
-            Change::Pool(3, Tag::Text("[I")),
-            Some(FormFault::BadName(4)),
-        ),
-        (
-            Change::Pool(3, Tag::Bytes(b"a\xC0\x80")),
-            Some(FormFault::BadName(4)),
-        ),
-    ] {
-        check(&rt, alloc, change, fault)?;
+fn told(fault: FormFault) -> (&'static str, u16) {
+    match fault {
+        FormFault::PoolKind(index) => ("PoolKind", index),
+        FormFault::BadName(index) => ("BadName", index),
+        FormFault::BadDesc(index) => ("BadDesc", index),
+        FormFault::Doubled(index) => ("Doubled", index),
+        FormFault::CodePresence(place) => ("CodePresence", place),
+        FormFault::OutOfProfile(place) => ("OutOfProfile", place),
+        FormFault::NoMemory => ("NoMemory", 0),
     }
+}
+
+// Whether the class has the changed parts.
+fn is_changed(alloc: Global, class: &Class, change: &str) -> Result<bool, AllocError> {
+    let parts = parts(alloc, change)?;
+    Ok(*class.parts() == parts)
+}
+
+fn made(alloc: Global, class: Class, change: &str) -> Result<(&'static str, u16), AllocError> {
+    if is_changed(alloc, &class, change)? {
+        Ok(("formed", 0))
+    } else {
+        Ok(("other parts", 0))
+    }
+}
+
+// The first fault of the changed parts, or that they make a class of themselves.
+fn outcome(alloc: Global, change: &str) -> Result<(&'static str, u16), AllocError> {
+    let parts = parts(alloc, change)?;
+    if !parts.is_within_bounds() {
+        return Ok(("too large", 0));
+    }
+    match Class::from_parts(alloc, parts) {
+        Ok(class) => made(alloc, class, change),
+        Err(fault) => Ok(told(fault)),
+    }
+}
+
+fn check(rt: &impl Abort, alloc: Global, row: &str) -> Result<(), AllocError> {
+    let want = part(row, '=', 1);
+    let (found, place) = outcome(alloc, part(row, '=', 0))?;
+    assert!(rt; found == word(want, 1), "{row}");
+    assert!(rt; place == number(want, 2), "{row}");
     Ok(())
 }
 
 #[test]
-fn fields_and_methods(rt: HostRuntime) -> Result<(), Fail> {
+fn faults(rt: HostRuntime) -> Result<(), Fail> {
     let alloc = rt.alloc();
-    for (change, fault) in [
-        // The same name with another descriptor, and another name with the same descriptor.
-        (more_field(12, 7, 8), None),
-        (more_field(5, 5, 0), None),
-        (more_field(6, 5, 0), Some(FormFault::BadName(6))),
-        (more_field(3, 5, 0), Some(FormFault::BadName(3))),
-        (more_field(24, 5, 0), Some(FormFault::BadName(24))),
-        (more_field(5, 12, 0), Some(FormFault::BadDesc(12))),
-        (more_field(5, 25, 0), Some(FormFault::BadDesc(25))),
-        (more_field(5, 13, 0), Some(FormFault::BadDesc(13))),
-        (more_field(23, 5, 0), Some(FormFault::Doubled(23))),
-        (more_field(5, 5, 8), Some(FormFault::PoolKind(8))),
-        (more_field(5, 7, 6), Some(FormFault::PoolKind(6))),
-        (more_field(5, 10, 11), None),
-        (more_field(5, 10, 1), Some(FormFault::PoolKind(1))),
-        (more_field(5, 5, 26), Some(FormFault::PoolKind(26))),
-        (more_method(0, 23, 15, Some(1)), None),
-        (more_method(0, 3, 13, Some(1)), Some(FormFault::BadName(3))),
-        (more_method(0, 5, 5, Some(1)), Some(FormFault::BadDesc(5))),
-        (
-            more_method(0, 23, 13, Some(1)),
-            Some(FormFault::Doubled(23)),
-        ),
-        (
-            more_method(0x0100, 5, 13, None),
-            Some(FormFault::OutOfProfile(1)),
-        ),
-        (
-            more_method(0x0020, 5, 13, Some(1)),
-            Some(FormFault::OutOfProfile(1)),
-        ),
-        (
-            more_method(0x0408, 5, 13, None),
-            Some(FormFault::OutOfProfile(1)),
-        ),
-        (more_method(0, 14, 13, Some(1)), None),
-        (
-            more_method(0x0008, 14, 13, Some(1)),
-            Some(FormFault::OutOfProfile(1)),
-        ),
-        (
-            more_method(0x0400, 14, 13, None),
-            Some(FormFault::OutOfProfile(1)),
-        ),
-        (
-            more_method(0, 14, 15, Some(1)),
-            Some(FormFault::OutOfProfile(1)),
-        ),
-        (
-            more_method(0, 5, 13, Some(0)),
-            Some(FormFault::OutOfProfile(1)),
-        ),
-        (more_method(0, 5, 13, Some(65_535)), None),
-        (
-            more_method(0, 5, 13, Some(65_536)),
-            Some(FormFault::OutOfProfile(1)),
-        ),
-        (more_method(0x0400, 5, 13, None), None),
-        (
-            more_method(0x0400, 5, 13, Some(1)),
-            Some(FormFault::CodePresence(1)),
-        ),
-        (
-            more_method(0, 5, 13, None),
-            Some(FormFault::CodePresence(1)),
-        ),
-    ] {
-        check(&rt, alloc, change, fault)?;
-    }
-    Ok(())
-}
-
-// Whether the changed parts have this first fault, or make a class of themselves.
-fn check(
-    rt: &impl std::process::Abort,
-    alloc: Global,
-    change: Change,
-    fault: Option<FormFault>,
-) -> Result<(), AllocError> {
-    let given = parts(alloc, change)?;
-    assert!(rt; given.is_within_bounds());
-    match Class::from_parts(alloc, given) {
-        Ok(class) => {
-            assert_eq!(rt; None, fault);
-            assert!(rt; *class.parts() == parts(alloc, change)?);
-        }
-        Err(found) => assert_eq!(rt; Some(found), fault),
+    for row in CASES.lines() {
+        check(&rt, alloc, row)?;
     }
     Ok(())
 }

@@ -1,6 +1,8 @@
 //! Subtypes, and which kinds are sent and restored.
 
-use super::world::{kind, tables};
+use super::world::{kind, tables, word, yes};
+use crate::program::ProgramTables;
+use std::process::Abort;
 use std::test::Fail;
 
 // Two kinds, whether the first is a subtype, and whether it is assignable.
@@ -66,37 +68,37 @@ L11 no no
 [L11 yes yes
 ";
 
-#[test]
-fn compares_kinds(rt: HostRuntime) -> Result<(), Fail> {
-    let program = tables(rt.alloc(), None)?;
+fn compare(rt: &impl Abort, program: &ProgramTables) {
     for row in PAIRS.lines() {
-        let mut words = row.split_whitespace();
-        let a = kind(words.next().ok_or("a kind")?)?;
-        let b = kind(words.next().ok_or("a kind")?)?;
-        let sub = words.next() == Some("yes");
-        let assignable = words.next() == Some("yes");
-        assert_eq!(rt; program.is_sub(a, b), sub, "{row}");
-        assert_eq!(rt; program.is_assignable(a, b), assignable, "{row}");
+        let a = kind(word(row, 0));
+        let b = kind(word(row, 1));
+        assert!(rt; program.is_sub(a, b) == yes(row, 2), "{row}");
+        assert!(rt; program.is_assignable(a, b) == yes(row, 3), "{row}");
     }
-    Ok(())
+}
+
+fn send_and_restore(rt: &impl Abort, program: &ProgramTables) {
+    for row in SENT.lines() {
+        let sent = kind(word(row, 0));
+        assert!(rt; program.is_sendable(sent) == yes(row, 1), "{row}");
+        assert!(rt; program.is_restorable(sent) == yes(row, 2), "{row}");
+    }
+}
+
+// The descriptor of 254 dimensions has 65,535 bytes.
+fn send_long(rt: &impl Abort, program: &ProgramTables) {
+    let mut long = kind("[L5");
+    long.dims = 254;
+    assert!(rt; program.is_sendable(long));
+    long.dims = 255;
+    assert!(rt; !program.is_sendable(long));
 }
 
 #[test]
-fn sends_and_restores(rt: HostRuntime) -> Result<(), Fail> {
-    let program = tables(rt.alloc(), None)?;
-    for row in SENT.lines() {
-        let mut words = row.split_whitespace();
-        let sent = kind(words.next().ok_or("a kind")?)?;
-        let sendable = words.next() == Some("yes");
-        let restorable = words.next() == Some("yes");
-        assert_eq!(rt; program.is_sendable(sent), sendable, "{row}");
-        assert_eq!(rt; program.is_restorable(sent), restorable, "{row}");
-    }
-    // The descriptor of 254 dimensions has 65,535 bytes.
-    let mut long = kind("[L5")?;
-    long.dims = 254;
-    assert_eq!(rt; program.is_sendable(long), true);
-    long.dims = 255;
-    assert_eq!(rt; program.is_sendable(long), false);
+fn kinds(rt: HostRuntime) -> Result<(), Fail> {
+    let program = tables(rt.alloc(), "")?;
+    compare(&rt, &program);
+    send_and_restore(&rt, &program);
+    send_long(&rt, &program);
     Ok(())
 }

@@ -1,7 +1,17 @@
 //! Classes by name, slots, selected and static methods.
 
-use super::world::{kind, name, number, tables};
+use super::world::{found, id, kind, name, tables, word};
+use crate::program::ProgramTables;
+use std::alloc::Global;
+use std::process::Abort;
 use std::test::Fail;
+
+// A name, and the class of that name.
+const NAMES: &str = "\
+demo/Sub 1
+demo/No -
+java/lang/Object 11
+";
 
 // The class of the object, the declaring class, the field, and its slot.
 const SLOTS: &str = "\
@@ -43,53 +53,78 @@ const STATIC: &str = "\
 0 f ()I -
 ";
 
-#[test]
-fn finds_classes_and_slots(rt: HostRuntime) -> Result<(), Fail> {
-    let alloc = rt.alloc();
-    let program = tables(alloc, None)?;
-    for (text, want) in [
-        ("demo/Sub", Some(1)),
-        ("demo/No", None),
-        ("java/lang/Object", Some(11)),
-    ] {
-        assert_eq!(rt; program.place_of(&name(alloc, text)?), want, "{text}");
+fn find_class(
+    rt: &impl Abort,
+    alloc: Global,
+    program: &ProgramTables,
+    row: &str,
+) -> Result<(), Fail> {
+    let called = name(alloc, word(row, 0))?;
+    assert!(rt; program.place_of(&called) == found(row, 1), "{row}");
+    Ok(())
+}
+
+fn find_slot(
+    rt: &impl Abort,
+    alloc: Global,
+    program: &ProgramTables,
+    row: &str,
+) -> Result<(), Fail> {
+    let field = name(alloc, word(row, 2))?;
+    let slot = program.slot_named(id(row, 0), id(row, 1), &field);
+    assert!(rt; slot == found(row, 3), "{row}");
+    Ok(())
+}
+
+fn static_named(alloc: Global, program: &ProgramTables, row: &str) -> Result<Option<usize>, Fail> {
+    let called = name(alloc, word(row, 1))?;
+    let desc = name(alloc, word(row, 2))?;
+    Ok(program.static_named(id(row, 0), &called, &desc))
+}
+
+fn find_static(
+    rt: &impl Abort,
+    alloc: Global,
+    program: &ProgramTables,
+    row: &str,
+) -> Result<(), Fail> {
+    let method = static_named(alloc, program, row)?;
+    assert!(rt; method == found(row, 3), "{row}");
+    Ok(())
+}
+
+fn select(rt: &impl Abort, program: &ProgramTables) {
+    for row in SELECTED.lines() {
+        let selected = program.selected(id(row, 0), id(row, 1));
+        assert!(rt; selected == found(row, 2), "{row}");
+    }
+}
+
+fn look_at_slots(rt: &impl Abort, program: &ProgramTables) {
+    assert!(rt; program.slots_of(1).len() == 3);
+    assert!(rt; program.kind_of_slot(1, 2) == Some(kind("[L1")));
+    assert!(rt; program.kind_of_slot(1, 3).is_none());
+}
+
+fn find(rt: &impl Abort, alloc: Global, program: &ProgramTables) -> Result<(), Fail> {
+    for row in NAMES.lines() {
+        find_class(rt, alloc, program, row)?;
     }
     for row in SLOTS.lines() {
-        let mut words = row.split_whitespace();
-        let class = words.next().ok_or("a class")?.parse::<u32>()?;
-        let declared_in = words.next().ok_or("a class")?.parse::<u32>()?;
-        let field = name(alloc, words.next().ok_or("a field")?)?;
-        let want = number(words.next().ok_or("a slot")?).map(|slot| slot as usize);
-        assert_eq!(rt;
-            program.slot_named(class, declared_in, &field),
-            want,
-            "{row}"
-        );
+        find_slot(rt, alloc, program, row)?;
     }
-    assert_eq!(rt; program.slots_of(1).len(), 3);
-    assert_eq!(rt; program.kind_of_slot(1, 2), Some(kind("[L1")?));
-    assert_eq!(rt; program.kind_of_slot(1, 3), None);
+    for row in STATIC.lines() {
+        find_static(rt, alloc, program, row)?;
+    }
     Ok(())
 }
 
 #[test]
-fn selects_methods(rt: HostRuntime) -> Result<(), Fail> {
+fn members(rt: HostRuntime) -> Result<(), Fail> {
     let alloc = rt.alloc();
-    let program = tables(alloc, None)?;
-    for row in SELECTED.lines() {
-        let mut words = row.split_whitespace();
-        let method = words.next().ok_or("a method")?.parse::<u32>()?;
-        let class = words.next().ok_or("a class")?.parse::<u32>()?;
-        let want = number(words.next().ok_or("a method")?).map(|found| found as usize);
-        assert_eq!(rt; program.selected(method, class), want, "{row}");
-    }
-    for row in STATIC.lines() {
-        let mut words = row.split_whitespace();
-        let class = words.next().ok_or("a class")?.parse::<u32>()?;
-        let called = name(alloc, words.next().ok_or("a name")?)?;
-        let desc = name(alloc, words.next().ok_or("a descriptor")?)?;
-        let want = number(words.next().ok_or("a method")?).map(|found| found as usize);
-        assert_eq!(rt; program.static_named(class, &called, &desc), want, "{row}");
-    }
+    let program = tables(alloc, "")?;
+    find(&rt, alloc, &program)?;
+    look_at_slots(&rt, &program);
+    select(&rt, &program);
     Ok(())
 }

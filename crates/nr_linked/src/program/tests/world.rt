@@ -1,9 +1,10 @@
 //! Small tables, written as text.
 
+use super::features::class_with;
 use crate::program::{Base, ClassInfo, Kind, MethodInfo, ProgramTables, SlotInfo};
 use nr_base::{Items, Name};
 use nr_prog::{Body, Class};
-use std::alloc::Global;
+use std::alloc::{AllocError, Global};
 use std::test::Fail;
 
 // Each class: its name, its flags, its superclass, what stands above it, its slots (the declaring
@@ -60,168 +61,178 @@ k (I)V 9 yes
 k ()V 8 yes
 ";
 
-/// A kind, as `[[I` or `[L3`, where a number names the class.
-pub fn kind(text: &str) -> Result<Kind, Fail> {
-    let dims = text.bytes().take_while(|b| *b == b'[').count();
-    let base = text.rsplit('[').next().ok_or("a base")?;
-    let base = match base.as_bytes() {
+fn part(text: &str, mark: char, place: usize) -> &str {
+    text.split(mark).nth(place).unwrap_or("")
+}
+
+/// The word at a place of a row.
+pub fn word(row: &str, place: usize) -> &str {
+    part(row, ' ', place)
+}
+
+/// The number at a place of a row, or none for anything else.
+pub fn number(row: &str, place: usize) -> Option<u32> {
+    word(row, place).parse::<u32>().ok()
+}
+
+/// The number of a class or a method at a place of a row.
+pub fn id(row: &str, place: usize) -> u32 {
+    number(row, place).unwrap_or(u32::MAX)
+}
+
+/// The place in a table at a place of a row, or none for anything else.
+pub fn found(row: &str, place: usize) -> Option<usize> {
+    word(row, place).parse::<usize>().ok()
+}
+
+pub fn flags(row: &str, place: usize) -> u16 {
+    word(row, place).parse::<u16>().unwrap_or(0)
+}
+
+/// Whether the word at a place is `yes`.
+pub fn yes(row: &str, place: usize) -> bool {
+    word(row, place) == "yes"
+}
+
+fn base(text: &str) -> Base {
+    match text.as_bytes() {
         b"Z" => Base::Bool,
         b"B" => Base::Byte,
         b"C" => Base::Char,
         b"S" => Base::Short,
         b"I" => Base::Int,
         b"J" => Base::Long,
-        _ => Base::Object(base.rsplit('L').next().ok_or("a class")?.parse::<u32>()?),
-    };
-    Ok(Kind {
-        dims: u8::try_from(dims)?,
-        base,
-    })
+        _ => Base::Object(part(text, 'L', 1).parse::<u32>().unwrap_or(u32::MAX)),
+    }
 }
 
-/// A number, or none for anything else.
-pub fn number(text: &str) -> Option<u32> {
-    text.parse::<u32>().ok()
+/// A kind, as `[[I` or `[L3`, where a number names the class.
+pub fn kind(text: &str) -> Kind {
+    let dims = text.split('[').count().saturating_sub(1);
+    Kind {
+        dims: u8::try_from(dims).unwrap_or(0),
+        base: base(part(text, '[', dims)),
+    }
 }
 
 pub fn name(alloc: Global, text: &str) -> Result<Name, Fail> {
-    let mut bytes = Vec::new(alloc);
     if text == "*" {
-        for _ in 0..65279 {
-            bytes.push(b'a')?;
-        }
-    } else {
-        bytes.extend_from_slice(text.as_bytes())?;
+        let long = vec![in alloc; b'a'; 65279]?;
+        return Ok(Name::read(alloc, long.as_slice())?);
     }
-    if bytes.len() > 0xFFFF {
+    if text.len() > 0xFFFF {
         return Err("a long name")?;
     }
-    Ok(Name::read(alloc, bytes.as_slice())?)
+    Ok(Name::read(alloc, text.as_bytes())?)
 }
 
-fn numbers(alloc: Global, text: &str) -> Result<Items<u32>, Fail> {
+fn numbers(alloc: Global, text: &str) -> Result<Items<u32>, AllocError> {
     let mut listed = Items::new(alloc);
     for word in text.split(',') {
-        listed.push(word.parse::<u32>()?)?;
+        listed.push(word.parse::<u32>().unwrap_or(u32::MAX))?;
     }
     Ok(listed)
+}
+
+fn slot(alloc: Global, text: &str) -> Result<SlotInfo, Fail> {
+    let field = name(alloc, part(text, ':', 1))?;
+    let desc = name(alloc, "I")?;
+    Ok(SlotInfo {
+        declared_in: part(text, ':', 0).parse::<u32>().unwrap_or(u32::MAX),
+        name: field,
+        desc,
+        kind: kind(part(text, ':', 2)),
+    })
 }
 
 fn slots(alloc: Global, text: &str) -> Result<Items<SlotInfo>, Fail> {
     let mut listed = Items::new(alloc);
-    for word in text.split(',') {
-        let mut parts = word.split(':');
-        if let Some(declared_in) = number(parts.next().ok_or("a class")?) {
-            let field = name(alloc, parts.next().ok_or("a field")?)?;
-            let kind = kind(parts.next().ok_or("a kind")?)?;
-            listed.push(SlotInfo {
-                declared_in,
-                name: field,
-                desc: name(alloc, "I")?,
-                kind,
-            })?;
+    if text != "-" {
+        for word in text.split(',') {
+            listed.push(slot(alloc, word)?)?;
         }
     }
     Ok(listed)
 }
 
-// The numbers of a class's row.
-#[derive(Clone, Copy)]
-struct Heading {
-    flags: u16,
-    super_class: Option<u32>,
-    first_method: u32,
-    methods: u32,
-}
-
-fn read_heading(row: &str) -> Result<Heading, Fail> {
-    let mut words = row.split_whitespace().skip(1);
-    let flags = words.next().ok_or("flags")?.parse::<u16>()?;
-    let super_class = number(words.next().ok_or("a superclass")?);
-    let mut words = row.split_whitespace().skip(5);
-    Ok(Heading {
-        flags,
-        super_class,
-        first_method: words.next().ok_or("a method")?.parse::<u32>()?,
-        methods: words.next().ok_or("methods")?.parse::<u32>()?,
-    })
-}
-
-fn class(alloc: Global, row: &str, read: Option<Class>) -> Result<ClassInfo, Fail> {
-    let Heading {
-        flags,
-        super_class,
-        first_method,
-        methods,
-    } = read_heading(row)?;
-    let called = name(alloc, row.split(' ').next().ok_or("a name")?)?;
-    let supers = numbers(alloc, row.split(' ').nth(3).ok_or("supers")?)?;
-    let slots = slots(alloc, row.split(' ').nth(4).ok_or("slots")?)?;
+fn class_above(
+    alloc: Global,
+    row: &str,
+    read: Option<Class>,
+    supers: Items<u32>,
+) -> Result<ClassInfo, Fail> {
+    let called = name(alloc, word(row, 0))?;
+    let slots = slots(alloc, word(row, 4))?;
     Ok(ClassInfo {
         name: called,
-        flags,
-        super_class,
+        flags: flags(row, 1),
+        super_class: number(row, 2),
         interfaces: Items::new(alloc),
         supers,
         slots,
-        first_method,
-        methods,
+        first_method: id(row, 5),
+        methods: id(row, 6),
         read,
     })
 }
 
-fn body(alloc: Global, row: &str) -> Option<Body> {
-    if row.ends_with("yes") {
-        Some(Body {
-            instrs: Items::new(alloc),
-            handlers: Items::new(alloc),
-            maps: Items::new(alloc),
-        })
+fn class(alloc: Global, row: &str, member: &str) -> Result<ClassInfo, Fail> {
+    let read = if word(row, 0) == "demo/Own" {
+        class_with(alloc, member)?
     } else {
         None
+    };
+    let supers = numbers(alloc, word(row, 3))?;
+    class_above(alloc, row, read, supers)
+}
+
+fn body(alloc: Global) -> Body {
+    Body {
+        instrs: Items::new(alloc),
+        handlers: Items::new(alloc),
+        maps: Items::new(alloc),
     }
 }
 
 fn method(alloc: Global, row: &str) -> Result<MethodInfo, Fail> {
-    let flags = row.split(' ').nth(2).ok_or("flags")?.parse::<u16>()?;
-    let called = name(alloc, row.split(' ').next().ok_or("a name")?)?;
-    let desc = name(alloc, row.split(' ').nth(1).ok_or("a descriptor")?)?;
+    let called = name(alloc, word(row, 0))?;
+    let desc = name(alloc, word(row, 1))?;
     Ok(MethodInfo {
         class: 0,
         name: called,
         desc,
-        flags,
+        flags: flags(row, 2),
         params: Items::new(alloc),
         result: None,
         max_stack: 0,
         max_locals: 0,
-        body: body(alloc, row),
+        body: if yes(row, 3) { Some(body(alloc)) } else { None },
         resolved: Items::new(alloc),
         catches: Items::new(alloc),
         maps: Items::new(alloc),
     })
 }
 
-fn classes(alloc: Global, own: Option<Class>) -> Result<Items<ClassInfo>, Fail> {
+fn classes(alloc: Global, member: &str) -> Result<Items<ClassInfo>, Fail> {
     let mut classes = Items::new(alloc);
-    let mut own = own;
     for row in CLASSES.lines() {
-        let read = if row.starts_with("demo/Own") {
-            own.take()
-        } else {
-            None
-        };
-        classes.push(class(alloc, row, read)?)?;
+        classes.push(class(alloc, row, member)?)?;
     }
     Ok(classes)
 }
 
-/// The tables of the texts above; `own` is what `demo/Own` was read as.
-pub fn tables(alloc: Global, own: Option<Class>) -> Result<ProgramTables, Fail> {
-    let classes = classes(alloc, own)?;
+fn methods(alloc: Global) -> Result<Items<MethodInfo>, Fail> {
     let mut methods = Items::new(alloc);
     for row in METHODS.lines() {
         methods.push(method(alloc, row)?)?;
     }
+    Ok(methods)
+}
+
+/// The tables of the texts above; `demo/Own` was read as a class with the member of a row, or is not
+/// read where the row is empty.
+pub fn tables(alloc: Global, member: &str) -> Result<ProgramTables, Fail> {
+    let classes = classes(alloc, member)?;
+    let methods = methods(alloc)?;
     Ok(ProgramTables { classes, methods })
 }
