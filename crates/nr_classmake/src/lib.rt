@@ -9,3 +9,6 @@ mod pool;
 pub use fault::MakeFault;
 pub use law::calls_make_the_class;
 pub use maker::ClassMaker;
+
+#[cfg(test)]
+mod tests;
