@@ -1,6 +1,7 @@
 -- A list that is taken from its front, part after part.
-use Rattle.std.proofs.Common.{◌≡◌, ◌≤◌, ◌-◌, ◌+◌, min, ◌++◌, List, ℕ, drop, take, length, sym, ◌∙◌, ap, append_assoc, arith}
+use Rattle.std.proofs.Common.{◌≡◌, ◌≤◌, ◌<◌, ◌-◌, ◌+◌, min, ◌++◌, List, [], ◌∷◌, ℕ, drop, take, flat_map, length, refl, sym, ◌∙◌, ap, append_assoc, subst, arith}
 use Rattle.std.proofs.lemmas.List.{take-append-drop, drop-drop, take_all, take-append-le, length-drop, length-take}
+use Rattle.nr_outside.specs.Link.{put_piece, GivesOfOne}
 
 -- what is left from an offset, whole
 take-drop : (xs : List ℕ) (from : ℕ) → take (length xs - from) (drop from xs) ≡ drop from xs
@@ -23,8 +24,29 @@ pub given_part : (piece written into : List ℕ) (from n : ℕ) → written ≡ 
 given_part piece written into from n is count = take-written (take (length piece - from) (drop from piece)) written into n is (omega arith)
 
 -- what was to come is what is given and what is to come after it
-pub left_part : (piece later : List ℕ) (from n : ℕ)
+left_bytes : (piece later : List ℕ) (from n : ℕ)
     → drop from piece ++ later ≡ take n (take (length piece - from) (drop from piece)) ++ (drop (from + n) piece ++ later)
-left_part piece later from n =
+left_bytes piece later from n =
     rw (take-drop piece from)
     (ap (λ xs. xs ++ later) (drop-split piece from n) ∙ append_assoc (take n (drop from piece)) (drop (from + n) piece) later)
+
+bytes-put : (p : List ℕ) (pieces : List (List ℕ)) → flat_map (λ q. q) (put_piece p pieces) ≡ p ++ flat_map (λ q. q) pieces
+bytes-put [] pieces = refl
+bytes-put (b ∷ bytes) pieces = refl
+
+pub left_part : (piece : List ℕ) (later : List (List ℕ)) (from n : ℕ)
+    → flat_map (λ p. p) (put_piece (drop from piece) later)
+    ≡ take n (take (length piece - from) (drop from piece)) ++ flat_map (λ p. p) (put_piece (drop (from + n) piece) later)
+left_part piece later from n =
+    rw (bytes-put (drop from piece) later, bytes-put (drop (from + n) piece) later) (left_bytes piece (flat_map (λ p. p) later) from n)
+
+of_one : (p : List ℕ) (pieces : List (List ℕ)) (room n : ℕ) → 0 < length p → n ≡ min (length p) room → GivesOfOne room n (put_piece p pieces) (put_piece (drop n p) pieces)
+of_one [] pieces room n lt is = absurd (omega arith)
+of_one (b ∷ bytes) pieces room n lt is = (is, refl)
+
+-- what is given are bytes of the first piece
+pub given_of_one : (piece : List ℕ) (later : List (List ℕ)) (room from n : ℕ) → from < length piece → n ≡ min (length (take (length piece - from) (drop from piece))) room
+    → GivesOfOne room n (put_piece (drop from piece) later) (put_piece (drop (from + n) piece) later)
+given_of_one piece later room from n lt is =
+    let own = of_one (drop from piece) later room n (simp length-drop (omega arith)) (is ∙ ap (λ xs. min (length xs) room) (take-drop piece from)) in
+    subst (λ xs. GivesOfOne room n (put_piece (drop from piece) later) (put_piece xs later)) (drop-drop n from piece) own

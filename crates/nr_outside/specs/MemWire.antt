@@ -2,7 +2,7 @@
 use Rattle.std.specs.Prelude.{ℕ, Bool, List, map}
 use Rattle.std.specs.String.{string_bytes}
 use Rattle.nr_outside.specs.Wire.{Connection, connections}
-use Rattle.nr_outside.specs.Link.{script_bytes, link_to_come, connection_of}
+use Rattle.nr_outside.specs.Link.{script_pieces, link_pieces, link_to_come, connection_of}
 use Rattle.nr_outside.specs.declared.wire.event.Event.{Event}
 use Rattle.nr_outside.specs.declared.wire.mem.MemWire.{MemWire}
 
@@ -26,9 +26,13 @@ mem_wire_connections w = connections w.opened (mem_wire_past w) w.live.sent.item
 abbrev pub mem_wire_events : MemWire → List Event
 mem_wire_events w = w.events.items
 
--- what the connections that it is still to open give
-abbrev pub mem_wire_scripts : MemWire → List (List ℕ)
-mem_wire_scripts w = map script_bytes w.scripts.items
+-- the pieces that the open connection is still to give
+abbrev pub mem_wire_pieces : MemWire → List (List ℕ)
+mem_wire_pieces w = link_pieces w.live
+
+-- the pieces that each connection gives which it is still to open
+abbrev pub mem_wire_scripts : MemWire → List (List (List ℕ))
+mem_wire_scripts w = map script_pieces w.scripts.items
 
 -- the numbers of its calls that are to fail
 abbrev pub mem_wire_fails : MemWire → List ℕ

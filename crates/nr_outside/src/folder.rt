@@ -18,8 +18,9 @@ pub use real::RealFolder;
 
 /// Where class files are listed and read.
 ///
-/// A folder may tell its files, which no call changes. It counts its faults: reads of a path that its told
-/// files lack, and all others. No count falls; one that is 2^64 - 1 stays there and counts as risen.
+/// A folder may tell its files, which no call changes. It counts its faults: reads of a path that its
+/// told files lack, and all others. A count rises where a call fails, and stands still otherwise; one
+/// that is 2^64 - 1 stays there and counts as risen.
 pub trait Folder {
     /// It tells its files.
     ghost Tells: { Type 0 };
@@ -33,10 +34,12 @@ pub trait Folder {
     /// How often it failed otherwise.
     ghost faults: { Self → ℕ };
 
-    /// The paths under `dir` that end in `.class`, at any depth, with `/` between segments, in any order.
+    /// The paths under `dir` that end in `.class`, at any depth, with `/` between segments, in any
+    /// order.
     fn names(&mut self, alloc: Global, dir: &str) -> Result<Vec<String>, Fault>
         ensures files { Tells → files self.new ≡ files self.old }
-        ensures names { Tells → IfOk result (λ names. IsPermutation (class_paths dir.now (files self.old)) (map string_bytes names.items)) }
+        ensures names { Tells → IfOk result (λ names. IsPermutation
+            (class_paths dir.now (files self.old)) (map string_bytes names.items)) }
         ensures cause { HasCause (faults self.old) (faults self.new) result }
         ensures lacks { lacks self.new ≡ lacks self.old };
 
@@ -48,7 +51,10 @@ pub trait Folder {
         ensures faults { faults self.old ≤ faults self.new }
         ensures lacks { lacks self.old ≤ lacks self.new }
         ensures cause { IsErrOf result Fault.Failed → Rose (faults self.old) (faults self.new)
-            ⊎ (Tells × (file_at dir.now path.now (files self.old) ≡ None) × Rose (lacks self.old) (lacks self.new)) };
+            ⊎ (Tells × (file_at dir.now path.now (files self.old) ≡ None)
+            × Rose (lacks self.old) (lacks self.new)) }
+        ensures still { IsErrOf result Fault.Failed ⊎ ((faults self.new ≡ faults self.old)
+            × (lacks self.new ≡ lacks self.old)) };
 
     /// A folder and a path stand together once.
     ghost each_once: { (f : Self) → Tells → IsTrue (is_each_once (files f)) };

@@ -1,5 +1,5 @@
 //! A wire: a way to peers, with at most one open connection.
-ghost use Rattle.std.specs.Prelude.{◌≡◌, ◌≢◌, ◌++◌, ◌∷◌, [], ◌≤◌, ◌<◌, Bool, true, false, is_ok, List, ℕ, length, IfOk, OnOk};
+ghost use Rattle.std.specs.Prelude.{◌≡◌, ◌≢◌, ◌⊎◌, ◌++◌, ◌∷◌, [], ◌≤◌, ◌<◌, Bool, true, false, is_ok, List, ℕ, length, Ok, IfOk, OnOk};
 ghost use Rattle.nr_outside.specs.Causes.{HasCause, Rose};
 ghost use Rattle.nr_outside.specs.Bytes.{AddsPart};
 ghost use Rattle.nr_outside.specs.Wire.{Connection, AddressesGrow, Gives, OpenIsTold, SendIsTold, ReceiveIsTold, IsAnswered};
@@ -17,9 +17,10 @@ pub use tcp::TcpWire;
 
 /// A way to peers.
 ///
-/// A wire may tell its addresses, its connections and the order of its events. It counts its faults, those of
-/// `listen`, `accept` and `open` apart from those of `send` and `receive`, and the ends that came. No count
-/// falls; one that is 2^64 - 1 stays there and counts as risen.
+/// A wire may tell its addresses, its connections and the order of its events. It counts its faults,
+/// those of `listen`, `accept` and `open` apart from those of `send` and `receive`, and the ends that
+/// came. A count rises where a call fails or an end comes, and stands still otherwise; one that is
+/// 2^64 - 1 stays there and counts as risen.
 pub trait Wire {
     /// It tells its addresses and its connections.
     ghost Tells: { Type 0 };
@@ -27,8 +28,9 @@ pub trait Wire {
     /// It tells the order of its events.
     ghost TellsOrder: { Type 0 };
 
-    /// Its peers keep to `says`: until a call on the open connection is refused, what was given and is to come
-    /// on it is a text that may be said to what was sent, and a receive gives a byte where bytes are to come.
+    /// Its peers keep to `says`: until a call on the open connection is refused, what was given and is
+    /// to come on it is a text that may be said to what was sent, and a receive gives a byte where bytes
+    /// are to come.
     ghost Honest: { Type 0 };
 
     /// What may be said to what was sent.
@@ -71,7 +73,8 @@ pub trait Wire {
     /// Listens at an address, for `accept`.
     fn listen(&mut self, addr: &str) -> Result<(), Fault>
         ensures opened { opened self.new ≡ opened self.old }
-        ensures addresses { Tells → AddressesGrow (addresses self.old) (addresses self.new) addr.now result }
+        ensures addresses { Tells
+            → AddressesGrow (addresses self.old) (addresses self.new) addr.now result }
         ensures past { Tells → past self.new ≡ past self.old }
         ensures sent { Tells → sent self.new ≡ sent self.old }
         ensures given { Tells → given self.new ≡ given self.old }
@@ -92,7 +95,8 @@ pub trait Wire {
         ensures given { Tells → OnOk result (given self.new ≡ []) }
         ensures order { TellsOrder → OpenIsTold (order self.old) (order self.new) result }
         ensures rule { (a b : List ℕ) → says self.new a b → says self.old a b }
-        ensures honest { Honest → OnOk result (IsAnswered (says self.new) (sent self.new) (given self.new) (to_come self.new)) }
+        ensures honest { Honest → OnOk result
+            (IsAnswered (says self.new) (sent self.new) (given self.new) (to_come self.new)) }
         ensures cause { HasCause (open_faults self.old) (open_faults self.new) result }
         ensures stream_faults { stream_faults self.new ≡ stream_faults self.old }
         ensures ends { ends self.new ≡ ends self.old };
@@ -101,13 +105,15 @@ pub trait Wire {
     fn open(&mut self, addr: &str) -> Result<(), Fault>
         requires { opened self.old ≡ false }
         ensures opened { opened self.new ≡ is_ok result }
-        ensures addresses { Tells → AddressesGrow (addresses self.old) (addresses self.new) addr.now result }
+        ensures addresses { Tells
+            → AddressesGrow (addresses self.old) (addresses self.new) addr.now result }
         ensures past { Tells → past self.new ≡ past self.old }
         ensures sent { Tells → OnOk result (sent self.new ≡ []) }
         ensures given { Tells → OnOk result (given self.new ≡ []) }
         ensures order { TellsOrder → OpenIsTold (order self.old) (order self.new) result }
         ensures rule { (a b : List ℕ) → says self.new a b → says self.old a b }
-        ensures honest { Honest → OnOk result (IsAnswered (says self.new) (sent self.new) (given self.new) (to_come self.new)) }
+        ensures honest { Honest → OnOk result
+            (IsAnswered (says self.new) (sent self.new) (given self.new) (to_come self.new)) }
         ensures cause { HasCause (open_faults self.old) (open_faults self.new) result }
         ensures stream_faults { stream_faults self.new ≡ stream_faults self.old }
         ensures ends { ends self.new ≡ ends self.old };
@@ -121,42 +127,52 @@ pub trait Wire {
         ensures addresses { Tells → addresses self.new ≡ addresses self.old }
         ensures past { Tells → past self.new ≡ past self.old }
         ensures given { Tells → given self.new ≡ given self.old }
-        ensures order { TellsOrder → SendIsTold (order self.old) (order self.new) (sent self.old) (sent self.new) piece.now result }
+        ensures order { TellsOrder → SendIsTold (order self.old) (order self.new) (sent self.old)
+            (sent self.new) piece.now result }
         ensures rule { (a b : List ℕ) → says self.new a b → says self.old a b }
-        ensures honest { Honest → IsAnswered (says self.old) (sent self.old) (given self.old) (to_come self.old)
-            → OnOk result (IsAnswered (says self.new) (sent self.new) (given self.new) (to_come self.new)) }
+        ensures honest { Honest
+            → IsAnswered (says self.old) (sent self.old) (given self.old) (to_come self.old)
+            → OnOk result
+            (IsAnswered (says self.new) (sent self.new) (given self.new) (to_come self.new)) }
         ensures cause { HasCause (stream_faults self.old) (stream_faults self.new) result }
         ensures open_faults { open_faults self.new ≡ open_faults self.old }
         ensures ends { ends self.new ≡ ends self.old };
 
-    /// Receives some bytes to the front of `into`, and says how many; 0 is the end of the connection.
+    /// Receives some bytes to the front of `into`, and says how many; 0 is the end of the
+    /// connection.
     fn receive(&mut self, into: &mut [u8]) -> Result<usize, Fault>
         requires open { opened self.old ≡ true }
         requires room { 0 < length into.old }
         ensures opened { opened self.new ≡ true }
         ensures bound { IfOk result (λ n. n ≤ length into.new) }
-        ensures gives { Tells → Gives (given self.old) (to_come self.old) (given self.new) (to_come self.new) result into.new }
+        ensures gives { Tells → Gives (given self.old) (to_come self.old) (given self.new)
+            (to_come self.new) result into.new }
         ensures addresses { Tells → addresses self.new ≡ addresses self.old }
         ensures past { Tells → past self.new ≡ past self.old }
         ensures sent { Tells → sent self.new ≡ sent self.old }
         ensures order { TellsOrder → ReceiveIsTold (order self.old) (order self.new) result }
         ensures rule { (a b : List ℕ) → says self.new a b → says self.old a b }
-        ensures honest { Honest → IsAnswered (says self.old) (sent self.old) (given self.old) (to_come self.old)
-            → OnOk result (IsAnswered (says self.new) (sent self.new) (given self.new) (to_come self.new)) }
-        ensures some { Honest → IsAnswered (says self.old) (sent self.old) (given self.old) (to_come self.old)
+        ensures honest { Honest
+            → IsAnswered (says self.old) (sent self.old) (given self.old) (to_come self.old)
+            → OnOk result
+            (IsAnswered (says self.new) (sent self.new) (given self.new) (to_come self.new)) }
+        ensures some { Honest
+            → IsAnswered (says self.old) (sent self.old) (given self.old) (to_come self.old)
             → to_come self.old ≢ [] → IfOk result (λ n. 0 < n) }
         ensures cause { HasCause (stream_faults self.old) (stream_faults self.new) result }
         ensures open_faults { open_faults self.new ≡ open_faults self.old }
         ensures end { IfOk result (λ n. n ≡ 0 → Rose (ends self.old) (ends self.new)) }
-        ensures ends { ends self.old ≤ ends self.new };
+        ensures ends { ends self.old ≤ ends self.new }
+        ensures still { (result ≡ Ok 0) ⊎ (ends self.new ≡ ends self.old) };
 
     /// Closes the open connection, if there is one.
     fn close(&mut self)
         ensures opened { opened self.new ≡ false }
         ensures addresses { Tells → addresses self.new ≡ addresses self.old }
         ensures none { Tells → opened self.old ≡ false → past self.new ≡ past self.old }
-        ensures past { Tells → opened self.old ≡ true → past self.new
-            ≡ past self.old ++ (record { sent = sent self.old; given = given self.old; to_come = to_come self.old }) ∷ [] }
+        ensures past { Tells → opened self.old ≡ true → past self.new ≡ past self.old
+            ++ (record { sent = sent self.old; given = given self.old; to_come = to_come self.old })
+            ∷ [] }
         ensures order { TellsOrder → order self.new ≡ order self.old }
         ensures rule { (a b : List ℕ) → says self.new a b → says self.old a b }
         ensures open_faults { open_faults self.new ≡ open_faults self.old }

@@ -26,8 +26,8 @@ impl MemFolder {
     ghost use Rattle.nr_outside.specs.Files.{told_of};
     ghost use Rattle.nr_outside.specs.MemFolder.{mem_folder_files, mem_folder_fails};
 
-    /// A folder of these files, each by its folder, its path there and its bytes. `fails` has the numbers,
-    /// from 1, of the calls that are to fail. `are_each_once` tests the condition.
+    /// A folder of these files, each by its folder, its path there and its bytes. `fails` has the
+    /// numbers, from 1, of the calls that are to fail. `are_each_once` tests the condition.
     pub fn new(files: Vec<(String, String, Vec<u8>)>, fails: Vec<u64>) -> Self
         requires { IsTrue (is_each_once (map told_of files.items)) }
         ensures files { mem_folder_files result ≡ map told_of files.items }
@@ -43,7 +43,7 @@ impl MemFolder {
 }
 
 impl Folder for MemFolder {
-    ghost use Rattle.std.specs.Prelude.{◌≡◌, ◌≤◌, ◌⊎◌, map, None, IfOk, IsErrOf, IsTrue, IsPermutation, vec_len};
+    ghost use Rattle.std.specs.Prelude.{◌≡◌, ◌≤◌, ◌⊎◌, map, false, None, IfOk, IsErrOf, IsTrue, IsPermutation, vec_len};
     ghost use Rattle.std.specs.String.{string_bytes};
     ghost use Rattle.nr_outside.specs.Causes.{HasCause, Rose};
     ghost use Rattle.nr_outside.specs.FailPlan.{is_planned, IsCounted};
@@ -63,7 +63,8 @@ impl Folder for MemFolder {
     /// It is `Failed` exactly where the call is to fail.
     fn names(&mut self, alloc: Global, dir: &str) -> Result<Vec<String>, Fault>
         ensures files { mem_folder_files self.new ≡ mem_folder_files self.old }
-        ensures names { IfOk result (λ names. IsPermutation (class_paths dir.now (mem_folder_files self.old)) (map string_bytes names.items)) }
+        ensures names { IfOk result (λ names. IsPermutation
+            (class_paths dir.now (mem_folder_files self.old)) (map string_bytes names.items)) }
         ensures cause { HasCause self.old.faults self.new.faults result }
         ensures lacks { self.new.lacks ≡ self.old.lacks }
         ensures planned { IsTrue (is_planned self.old.plan) → IsErrOf result Fault.Failed }
@@ -84,12 +85,23 @@ impl Folder for MemFolder {
         ensures faults { self.old.faults ≤ self.new.faults }
         ensures lacks { self.old.lacks ≤ self.new.lacks }
         ensures cause { IsErrOf result Fault.Failed → Rose self.old.faults self.new.faults
-            ⊎ ((file_at dir.now path.now (mem_folder_files self.old) ≡ None) × Rose self.old.lacks self.new.lacks) }
+            ⊎ ((file_at dir.now path.now (mem_folder_files self.old) ≡ None)
+            × Rose self.old.lacks self.new.lacks) }
+        ensures still { IsErrOf result Fault.Failed
+            ⊎ ((self.new.faults ≡ self.old.faults) × (self.new.lacks ≡ self.old.lacks)) }
         ensures planned { IsTrue (is_planned self.old.plan) → IsErrOf result Fault.Failed }
-        ensures absent { file_at dir.now path.now (mem_folder_files self.old) ≡ None → IsErrOf result Fault.Failed }
+        ensures absent { file_at dir.now path.now (mem_folder_files self.old) ≡ None
+            → IsErrOf result Fault.Failed }
         ensures failed { IsErrOf result Fault.Failed → IsTrue (is_planned self.old.plan)
             ⊎ (file_at dir.now path.now (mem_folder_files self.old) ≡ None) }
         ensures counted { IsCounted self.old.plan self.new.plan }
+
+        // A planned fault isn't counted among the reads of files that aren't there, and such a read
+        // isn't counted among the planned faults.
+        ensures planned_lacks { IsTrue (is_planned self.old.plan)
+            → self.new.lacks ≡ self.old.lacks }
+        ensures absent_faults { is_planned self.old.plan ≡ false
+            → self.new.faults ≡ self.old.faults }
     {
         if self.plan.is_next_to_fail() {
             return Err(failed(&mut self.faults));

@@ -17,15 +17,15 @@ pub struct Link {
 }
 
 impl Link {
-    ghost use Rattle.std.specs.Prelude.{◌≡◌, ◌≢◌, ◌≤◌, ◌<◌, true, false, [], length, vec_len, flat_map, IfOk, IsErrOf};
+    ghost use Rattle.std.specs.Prelude.{◌≡◌, ◌≢◌, ◌≤◌, ◌<◌, true, false, [], length, vec_len, IfOk, OnErr, IsErrOf};
     ghost use Rattle.nr_outside.specs.Wire.{Gives};
-    ghost use Rattle.nr_outside.specs.Link.{link_to_come};
+    ghost use Rattle.nr_outside.specs.Link.{pieces_of, link_pieces, link_to_come, GivesOfOne};
 
     // A connection that is to give these pieces.
     pub fn new(alloc: Global, pieces: VecDeque<Vec<u8>>) -> Self
         ensures sent { result.sent.items ≡ [] }
         ensures given { result.given.items ≡ [] }
-        ensures to_come { link_to_come result ≡ flat_map (λ p. p.items) pieces.items }
+        ensures pieces { link_pieces result ≡ pieces_of pieces.items }
     {
         Link {
             sent: Vec::new(alloc),
@@ -36,11 +36,12 @@ impl Link {
         }
     }
 
-    // Goes on to the next piece that has bytes, where all of this one was given. False where none has.
+    // Goes on to the next piece that has bytes, where all of this one was given. False where none
+    // has.
     fn advance(&mut self) -> bool
         ensures some { result ≡ true → self.new.from < vec_len self.new.piece }
-        ensures none { result ≡ false → link_to_come self.new ≡ [] }
-        ensures to_come { link_to_come self.new ≡ link_to_come self.old }
+        ensures none { result ≡ false → link_pieces self.new ≡ [] }
+        ensures pieces { link_pieces self.new ≡ link_pieces self.old }
         ensures sent { self.new.sent ≡ self.old.sent }
         ensures given { self.new.given ≡ self.old.given }
     {
@@ -62,7 +63,11 @@ impl Link {
         requires rest { self.old.from < vec_len self.old.piece }
         ensures some { IfOk result (λ n. 0 < n) }
         ensures bound { IfOk result (λ n. n ≤ length into.new) }
-        ensures gives { Gives self.old.given.items (link_to_come self.old) self.new.given.items (link_to_come self.new) result into.new }
+        ensures gives { Gives self.old.given.items (link_to_come self.old) self.new.given.items
+            (link_to_come self.new) result into.new }
+        ensures piece { IfOk result
+            (λ n. GivesOfOne (length into.old) n (link_pieces self.old) (link_pieces self.new)) }
+        ensures kept { OnErr result (link_pieces self.new ≡ link_pieces self.old) }
         ensures sent { self.new.sent ≡ self.old.sent }
         ensures memory { IsErrOf result Fault.Failed → ⊥ }
     {
@@ -80,7 +85,11 @@ impl Link {
         requires { 0 < length into.old }
         ensures some { link_to_come self.old ≢ [] → IfOk result (λ n. 0 < n) }
         ensures bound { IfOk result (λ n. n ≤ length into.new) }
-        ensures gives { Gives self.old.given.items (link_to_come self.old) self.new.given.items (link_to_come self.new) result into.new }
+        ensures gives { Gives self.old.given.items (link_to_come self.old) self.new.given.items
+            (link_to_come self.new) result into.new }
+        ensures piece { IfOk result
+            (λ n. GivesOfOne (length into.old) n (link_pieces self.old) (link_pieces self.new)) }
+        ensures kept { OnErr result (link_pieces self.new ≡ link_pieces self.old) }
         ensures sent { self.new.sent ≡ self.old.sent }
         ensures memory { IsErrOf result Fault.Failed → ⊥ }
     {

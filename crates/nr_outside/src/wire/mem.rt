@@ -15,8 +15,9 @@ use std::mem;
 
 /// A wire that gives scripts, and tells all that it tells of.
 ///
-/// An `open` or `accept` that isn't to fail takes the next script, and is `Failed` where none is left. It counts
-/// its calls of `listen`, `accept`, `open`, `send` and `receive`. Its peers may say anything.
+/// An `open` or `accept` that isn't to fail takes the next script, and is `Failed` where none is left.
+/// A `receive` gives bytes of one piece. It counts its calls of `listen`, `accept`, `open`, `send` and
+/// `receive`. Its peers may say anything.
 #[derive(Drop)]
 pub struct MemWire {
     alloc: Global,
@@ -38,17 +39,18 @@ impl MemWire {
     ghost use Rattle.std.specs.String.{string_bytes};
     ghost use Rattle.nr_outside.specs.Causes.{HasCause};
     ghost use Rattle.nr_outside.specs.Wire.{OpenIsTold};
-    ghost use Rattle.nr_outside.specs.Link.{link_to_come, script_bytes};
-    ghost use Rattle.nr_outside.specs.MemWire.{mem_wire_opened, mem_wire_addresses, mem_wire_past, mem_wire_connections, mem_wire_events, mem_wire_scripts, mem_wire_fails};
+    ghost use Rattle.nr_outside.specs.Link.{script_pieces};
+    ghost use Rattle.nr_outside.specs.MemWire.{mem_wire_opened, mem_wire_addresses, mem_wire_past, mem_wire_connections, mem_wire_events, mem_wire_pieces, mem_wire_scripts, mem_wire_fails};
 
-    /// A wire with nothing open, whose connections give these scripts in turn, each the pieces that it gives; a
-    /// piece with no bytes is skipped. `fails` has the numbers, from 1, of the calls that are to fail.
+    /// A wire with nothing open, whose connections give these scripts in turn, each the pieces that it
+    /// gives; a piece with no bytes is skipped. `fails` has the numbers, from 1, of the calls that are
+    /// to fail.
     pub fn new(alloc: Global, scripts: Vec<Vec<Vec<u8>>>, fails: Vec<u64>) -> Self
         ensures opened { mem_wire_opened result ≡ false }
         ensures addresses { mem_wire_addresses result ≡ [] }
         ensures past { mem_wire_past result ≡ [] }
         ensures events { mem_wire_events result ≡ [] }
-        ensures scripts { mem_wire_scripts result ≡ map script_bytes scripts.items }
+        ensures scripts { mem_wire_scripts result ≡ map script_pieces scripts.items }
         ensures fails { mem_wire_fails result ≡ fails.items }
     {
         MemWire {
@@ -94,7 +96,8 @@ impl MemWire {
     /// What was sent on a connection, counted from 0 in the order of opening.
     pub fn sent(&self, connection: usize) -> &[u8]
         requires { connection < length (mem_wire_connections self.now) }
-        ensures { slice_get (map (λ c. c.sent) (mem_wire_connections self.now)) connection ≡ Some result.now }
+        ensures { slice_get (map (λ c. c.sent) (mem_wire_connections self.now)) connection
+            ≡ Some result.now }
     {
         if connection < self.past.len() {
             &self.past[connection].sent
@@ -110,8 +113,10 @@ impl MemWire {
         requires event_room { vec_len self.old.events < vec_capacity self.old.events }
         ensures opened { self.new.opened ≡ is_ok result }
         ensures memory { IsErrOf result Fault.NoMemory → ⊥ }
-        ensures script { OnOk result (mem_wire_scripts self.old ≡ link_to_come self.new.live ∷ mem_wire_scripts self.new) }
+        ensures script { OnOk result
+            (mem_wire_scripts self.old ≡ mem_wire_pieces self.new ∷ mem_wire_scripts self.new) }
         ensures none { OnErr result (mem_wire_scripts self.old ≡ []) }
+        ensures kept { OnErr result (mem_wire_scripts self.new ≡ mem_wire_scripts self.old) }
         ensures sent { OnOk result (self.new.live.sent.items ≡ []) }
         ensures given { OnOk result (self.new.live.given.items ≡ []) }
         ensures events { OpenIsTold self.old.events.items self.new.events.items result }
@@ -135,13 +140,13 @@ impl MemWire {
 }
 
 impl Wire for MemWire {
-    ghost use Rattle.std.specs.Prelude.{◌≡◌, ◌≢◌, ◌<◌, ◌≤◌, ◌++◌, ◌⊎◌, [], true, false, is_ok, length, OnOk, IfOk, IsErr, IsErrOf, IsTrue};
+    ghost use Rattle.std.specs.Prelude.{◌≡◌, ◌≢◌, ◌<◌, ◌≤◌, ◌++◌, ◌∷◌, ◌⊎◌, [], true, false, is_ok, length, Ok, OnOk, OnErr, IfOk, IsErr, IsErrOf, IsTrue};
     ghost use Rattle.nr_outside.specs.Bytes.{AddsPart};
     ghost use Rattle.nr_outside.specs.Causes.{HasCause, Rose};
     ghost use Rattle.nr_outside.specs.FailPlan.{is_planned, IsCounted};
-    ghost use Rattle.nr_outside.specs.Link.{link_to_come};
+    ghost use Rattle.nr_outside.specs.Link.{link_to_come, GivesOfOne};
     ghost use Rattle.nr_outside.specs.Wire.{AddressesGrow, Gives, OpenIsTold, ReceiveIsTold, SendIsTold};
-    ghost use Rattle.nr_outside.specs.MemWire.{mem_wire_addresses, mem_wire_past, mem_wire_events, mem_wire_scripts};
+    ghost use Rattle.nr_outside.specs.MemWire.{mem_wire_addresses, mem_wire_past, mem_wire_events, mem_wire_pieces, mem_wire_scripts};
 
     ghost Tells = { Unit {0} };
 
@@ -178,9 +183,11 @@ impl Wire for MemWire {
     /// It is `Failed` just where the call is to fail.
     fn listen(&mut self, addr: &str) -> Result<(), Fault>
         ensures opened { self.new.opened ≡ self.old.opened }
-        ensures addresses { AddressesGrow (mem_wire_addresses self.old) (mem_wire_addresses self.new) addr.now result }
+        ensures addresses { AddressesGrow (mem_wire_addresses self.old)
+            (mem_wire_addresses self.new) addr.now result }
         ensures past { mem_wire_past self.new ≡ mem_wire_past self.old }
         ensures live { self.new.live ≡ self.old.live }
+        ensures scripts { mem_wire_scripts self.new ≡ mem_wire_scripts self.old }
         ensures events { mem_wire_events self.new ≡ mem_wire_events self.old }
         ensures cause { HasCause self.old.open_faults self.new.open_faults result }
         ensures stream_faults { self.new.stream_faults ≡ self.old.stream_faults }
@@ -205,6 +212,9 @@ impl Wire for MemWire {
         ensures past { mem_wire_past self.new ≡ mem_wire_past self.old }
         ensures sent { OnOk result (self.new.live.sent.items ≡ []) }
         ensures given { OnOk result (self.new.live.given.items ≡ []) }
+        ensures script { OnOk result
+            (mem_wire_scripts self.old ≡ mem_wire_pieces self.new ∷ mem_wire_scripts self.new) }
+        ensures scripts { OnErr result (mem_wire_scripts self.new ≡ mem_wire_scripts self.old) }
         ensures events { OpenIsTold (mem_wire_events self.old) (mem_wire_events self.new) result }
         ensures cause { HasCause self.old.open_faults self.new.open_faults result }
         ensures stream_faults { self.new.stream_faults ≡ self.old.stream_faults }
@@ -226,10 +236,14 @@ impl Wire for MemWire {
     fn open(&mut self, addr: &str) -> Result<(), Fault>
         requires { self.old.opened ≡ false }
         ensures opened { self.new.opened ≡ is_ok result }
-        ensures addresses { AddressesGrow (mem_wire_addresses self.old) (mem_wire_addresses self.new) addr.now result }
+        ensures addresses { AddressesGrow (mem_wire_addresses self.old)
+            (mem_wire_addresses self.new) addr.now result }
         ensures past { mem_wire_past self.new ≡ mem_wire_past self.old }
         ensures sent { OnOk result (self.new.live.sent.items ≡ []) }
         ensures given { OnOk result (self.new.live.given.items ≡ []) }
+        ensures script { OnOk result
+            (mem_wire_scripts self.old ≡ mem_wire_pieces self.new ∷ mem_wire_scripts self.new) }
+        ensures scripts { OnErr result (mem_wire_scripts self.new ≡ mem_wire_scripts self.old) }
         ensures events { OpenIsTold (mem_wire_events self.old) (mem_wire_events self.new) result }
         ensures cause { HasCause self.old.open_faults self.new.open_faults result }
         ensures stream_faults { self.new.stream_faults ≡ self.old.stream_faults }
@@ -254,13 +268,16 @@ impl Wire for MemWire {
     fn send(&mut self, piece: &[u8]) -> Result<(), Fault>
         requires { self.old.opened ≡ true }
         ensures opened { self.new.opened ≡ true }
-        ensures sent { OnOk result (self.new.live.sent.items ≡ self.old.live.sent.items ++ piece.now) }
+        ensures sent { OnOk result
+            (self.new.live.sent.items ≡ self.old.live.sent.items ++ piece.now) }
         ensures part { AddsPart self.old.live.sent.items self.new.live.sent.items piece.now }
         ensures addresses { mem_wire_addresses self.new ≡ mem_wire_addresses self.old }
         ensures past { mem_wire_past self.new ≡ mem_wire_past self.old }
         ensures given { self.new.live.given.items ≡ self.old.live.given.items }
-        ensures events { SendIsTold (mem_wire_events self.old) (mem_wire_events self.new) self.old.live.sent.items
-            self.new.live.sent.items piece.now result }
+        ensures pieces { mem_wire_pieces self.new ≡ mem_wire_pieces self.old }
+        ensures scripts { mem_wire_scripts self.new ≡ mem_wire_scripts self.old }
+        ensures events { SendIsTold (mem_wire_events self.old) (mem_wire_events self.new)
+            self.old.live.sent.items self.new.live.sent.items piece.now result }
         ensures cause { HasCause self.old.stream_faults self.new.stream_faults result }
         ensures open_faults { self.new.open_faults ≡ self.old.open_faults }
         ensures ends { self.new.ends ≡ self.old.ends }
@@ -285,8 +302,12 @@ impl Wire for MemWire {
         requires room { 0 < length into.old }
         ensures opened { self.new.opened ≡ true }
         ensures bound { IfOk result (λ n. n ≤ length into.new) }
-        ensures gives { Gives self.old.live.given.items (link_to_come self.old.live) self.new.live.given.items
-            (link_to_come self.new.live) result into.new }
+        ensures gives { Gives self.old.live.given.items (link_to_come self.old.live)
+            self.new.live.given.items (link_to_come self.new.live) result into.new }
+        ensures piece { IfOk result (λ n. GivesOfOne (length into.old) n (mem_wire_pieces self.old)
+            (mem_wire_pieces self.new)) }
+        ensures kept { OnErr result (mem_wire_pieces self.new ≡ mem_wire_pieces self.old) }
+        ensures scripts { mem_wire_scripts self.new ≡ mem_wire_scripts self.old }
         ensures addresses { mem_wire_addresses self.new ≡ mem_wire_addresses self.old }
         ensures past { mem_wire_past self.new ≡ mem_wire_past self.old }
         ensures sent { self.new.live.sent.items ≡ self.old.live.sent.items }
@@ -296,6 +317,7 @@ impl Wire for MemWire {
         ensures some { link_to_come self.old.live ≢ [] → IfOk result (λ n. 0 < n) }
         ensures end { IfOk result (λ n. n ≡ 0 → Rose self.old.ends self.new.ends) }
         ensures ends { self.old.ends ≤ self.new.ends }
+        ensures still { (result ≡ Ok 0) ⊎ (self.new.ends ≡ self.old.ends) }
         ensures planned { IsTrue (is_planned self.old.plan) → IsErr result }
         ensures failed { IsErrOf result Fault.Failed → IsTrue (is_planned self.old.plan) }
         ensures counted { IsCounted self.old.plan self.new.plan }
@@ -314,7 +336,19 @@ impl Wire for MemWire {
         Ok(count)
     }
 
-    fn close(&mut self) {
+    fn close(&mut self)
+        ensures opened { self.new.opened ≡ false }
+        ensures addresses { mem_wire_addresses self.new ≡ mem_wire_addresses self.old }
+        ensures none { self.old.opened ≡ false → mem_wire_past self.new ≡ mem_wire_past self.old }
+        ensures past { self.old.opened ≡ true
+            → mem_wire_past self.new ≡ mem_wire_past self.old ++ connection_of self.old.live ∷ [] }
+        ensures scripts { mem_wire_scripts self.new ≡ mem_wire_scripts self.old }
+        ensures events { mem_wire_events self.new ≡ mem_wire_events self.old }
+        ensures open_faults { self.new.open_faults ≡ self.old.open_faults }
+        ensures stream_faults { self.new.stream_faults ≡ self.old.stream_faults }
+        ensures ends { self.new.ends ≡ self.old.ends }
+        ensures plan { self.new.plan ≡ self.old.plan }
+    {
         if self.opened {
             let fresh = Link::new(self.alloc, VecDeque::new(self.alloc));
             let link = mem::replace(&mut self.live, fresh);
