@@ -28,7 +28,7 @@ fn too_long(part: Part, most: usize, count: usize) -> Option<WriteFault>
     ensures { result ≡ too_long part most count }
 {
     if count > most {
-        Some(WriteFault::TooLong(part, count))
+        Some(WriteFault::TooLong(part, count as u64))
     } else {
         None
     }

@@ -39,7 +39,7 @@ pub enum AttrName {
 #[derive(Clone, Copy, Debug, PartialEq, Eq)]
 pub enum WriteFault {
     /// The part has so many items, more than its count can say.
-    TooLong(Part, usize),
+    TooLong(Part, u64),
     /// The attribute is needed, and no Utf8 entry of the constant pool spells its name.
     NoAttrName(AttrName),
     /// There was no memory for the file.

@@ -1,6 +1,8 @@
 //! Whole class files that are written again.
 
 mod files;
+mod refusals;
+mod shape;
 
 use crate::write_class;
 use files::{COUNTER, M};
