@@ -6,3 +6,4 @@ pub mod Listed
 pub mod Parts
 pub mod Runnable
 pub mod Loadings
+pub mod Names

@@ -16,7 +16,8 @@ part_of_end end wanted old new (inl e) p = nothing old new (out_of wanted) (subs
 part_of_end end wanted old new (inr (inl e)) p = nothing old new (out_of wanted) (subst (λ (z : End). AddsPart old new (out_of z)) e p)
 part_of_end end wanted old new (inr (inr e)) p = subst (λ (z : End). AddsPart old new (out_of z)) e p
 
-widened : (old new own : List ℕ) (F O : Type 0) → SaysPart old new own ⊥ O → SaysPart old new own F O
+-- the same where the folder may have failed too
+pub widened : (old new own : List ℕ) (F O : Type 0) → SaysPart old new own ⊥ O → SaysPart old new own F O
 widened old new own F O (inl p) = inl p
 widened old new own F O (inr (inl p)) = inr (inl p)
 widened old new own F O (inr (inr (inl p))) = absurd p.0
@@ -40,6 +41,3 @@ pub said_of_end : (end wanted : End) (old new : List ℕ) (F O : Type 0) → (en
 said_of_end end wanted old new F O cause (inl e) p = as_memory old new (err_of wanted) F O (subst (λ (z : End). SaysPart old new (err_of z) ⊥ O) e p)
 said_of_end end wanted old new F O cause (inr (inl e)) p = as_folder old new (err_of wanted) F O (cause e) (subst (λ (z : End). SaysPart old new (err_of z) ⊥ O) e p)
 said_of_end end wanted old new F O cause (inr (inr e)) p = widened old new (err_of wanted) F O (subst (λ (z : End). SaysPart old new (err_of z) ⊥ O) e p)
-
-pub said_by_some : (end : End) (old new : List ℕ) (F O : Type 0) → SaysPart old new (err_of end) ⊥ O → (some : End) × SaysPart old new (err_of some) F O
-said_by_some end old new F O p = (end, widened old new (err_of end) F O p)

@@ -7,7 +7,8 @@ use Rattle.nr_prog.specs.declared.pool.PoolEntry.{PoolEntry}
 use Rattle.nr_prog.specs.declared.member.Method.{Method}
 use Rattle.nr_prog.specs.declared.member.Code.{Code}
 use Rattle.nr_prog.specs.declared.parts.ClassParts.{ClassParts}
-use Rattle.nr_cli.specs.Thin.{fits, has_thin_code, is_main, first_other, is_thin, first_code, spells, is_text, class_text, is_class_flags}
+use Rattle.nr_prog.specs.Members.{is_spelled}
+use Rattle.nr_cli.specs.Thin.{fits, has_thin_code, is_main, first_other, is_thin, first_code, is_class_of, is_class_flags}
 
 second : (a b : Bool) → (a && b) ≡ true → b ≡ true
 second true b e = e
@@ -28,10 +29,8 @@ instructions code e =
 main_code : (pool : List PoolEntry) (m : Method) → is_main pool m ≡ true → has_thin_code m.code ≡ true
 main_code pool m e =
     let own = has_thin_code m.code in
-    let desc = spells pool m.desc (codes "([I)I") && own in
-    second (spells pool m.desc (codes "([I)I")) own
-    (second (spells pool m.name (codes "main")) desc
-    (second (m.flags == 9) (spells pool m.name (codes "main") && desc) e))
+    let named = is_spelled pool (codes "main") (codes "([I)I") m.name m.desc in
+    second named own (second (m.flags == 9) (named && own) e)
 
 passes : (pool : List PoolEntry) (m : Method) (methods : List Method) (b : Bool) → is_main pool m ≡ b → length (cond b (m ∷ take_while (is_main pool) methods) []) ≡ 1 → has_thin_code m.code ≡ true
 passes pool m methods true is h = main_code pool m is
@@ -47,7 +46,7 @@ thin_code c e =
     let methods = length c.methods == 1 && own in
     let fields = length c.fields == 0 && methods in
     let interfaces = length c.interfaces == 0 && fields in
-    let above = is_text (class_text c.pool c.super_class) (codes "java/lang/Object") in
+    let above = is_class_of (codes "java/lang/Object") c.pool c.super_class in
     first_passes c.pool c.methods
     (eqb-true (first_other c) 1
     (second (length c.methods == 1) own

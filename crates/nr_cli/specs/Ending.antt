@@ -1,5 +1,5 @@
 -- How the program ends, and what it writes then. The project's own rules.
-use Rattle.std.specs.Prelude.{ℕ, List, [], ◌∷◌, ◌++◌, ◌⊎◌, codes}
+use Rattle.std.specs.Prelude.{◌≡◌, ℕ, List, [], ◌∷◌, ◌++◌, ◌⊎◌, codes}
 use Rattle.std.specs.Fmt.{decimal, signed_decimal}
 use Rattle.nr_outside.specs.Bytes.{AddsPart}
 use Rattle.nr_cli.specs.Spelling.{spelled, spelled_fault}
@@ -39,3 +39,12 @@ abbrev pub SaysPart : List ℕ → List ℕ → List ℕ → Type 0 → Type 0 �
 SaysPart old new own folder_failed out_failed =
     AddsPart old new own ⊎ AddsPart old new (line (codes "memory"))
     ⊎ (folder_failed × AddsPart old new (line (codes "folder"))) ⊎ (out_failed × AddsPart old new (line (codes "sink")))
+
+-- The program ends so, but where a write failed or memory ran out: its status, and what it adds to the sinks that tell
+-- what they hold.
+pub record EndsAs (end : End) (status : ℕ) (out_tells : Type 0) (out out' : List ℕ) (err_tells : Type 0) (err err' : List ℕ) (folder_failed out_failed : Type 0) : Type 0 where
+  pub own : (status ≡ status_of end) ⊎ (status ≡ 11) ⊎ (status ≡ 12)
+  pub result : out_tells → (status ≡ 11 → ⊥) → (status ≡ 12 → ⊥) → out' ≡ out ++ out_of end
+  pub part : out_tells → AddsPart out out' (out_of end)
+  pub line : err_tells → (status ≡ 11 → ⊥) → (status ≡ 12 → ⊥) → err' ≡ err ++ err_of end
+  pub said : err_tells → SaysPart err err' (err_of end) folder_failed out_failed

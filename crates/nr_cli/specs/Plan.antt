@@ -4,8 +4,9 @@ use Rattle.std.specs.Str.{bytes_eq}
 use Rattle.nr_outside.specs.Folder.{ToldFile, class_paths, file_at}
 use Rattle.nr_cli.specs.Words.{Command, command_of}
 use Rattle.nr_cli.specs.Order.{in_byte_order}
-use Rattle.nr_cli.specs.Thin.{is_thin, first_other, first_code, class_text, is_reserved}
+use Rattle.nr_cli.specs.Thin.{is_thin, first_other, first_code, is_reserved}
 use Rattle.nr_cli.specs.Run.{run_of}
+use Rattle.nr_prog.specs.BodyNames.{class_text_at}
 use Rattle.nr_prog.specs.declared.member.Code.{Code}
 use Rattle.nr_prog.specs.declared.parts.ClassParts.{ClassParts}
 use Rattle.nr_prog.specs.declared.body.loaded.Loaded.{Loaded}
@@ -34,7 +35,7 @@ named_end c (Some name) end = cond (is_reserved name) (ReservedName name) (cond 
 
 -- The class that is to run: its name isn't reserved, and is the command's.
 abbrev pub run_class : Command → ClassParts → End
-run_class c class = named_end c (class_text class.pool class.this_class) (run_code c.budget (first_code class.methods))
+run_class c class = named_end c (class_text_at class.pool class.this_class) (run_code c.budget (first_code class.methods))
 
 -- a file that can't be read, or whose code is refused
 abbrev pub fault_end : List ℕ → LoadFault → End

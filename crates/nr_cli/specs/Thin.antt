@@ -3,29 +3,17 @@
 use Rattle.std.specs.Prelude.{ℕ, bit_and, ◌+◌, ◌-◌, ◌&&◌, ◌||◌, ◌==◌, Bool, false, List, [], ◌∷◌, length, take_while, Option, None, Some, is_none, codes, cond, nat_le, nat_lt, nat_eq}
 use Rattle.std.specs.List.{starts_with}
 use Rattle.std.specs.Str.{bytes_eq}
-use Rattle.nr_prog.specs.Pool.{entry_at, text_at}
+use Rattle.std.specs.Option.{option_map_or}
+use Rattle.nr_prog.specs.BodyNames.{class_text_at}
+use Rattle.nr_prog.specs.Members.{is_spelled}
 use Rattle.nr_prog.specs.declared.pool.PoolEntry.{PoolEntry}
-use Rattle.nr_prog.specs.declared.pool.PoolEntry.TheVariants.{Class}
 use Rattle.nr_prog.specs.declared.member.Method.{Method}
 use Rattle.nr_prog.specs.declared.member.Code.{Code}
 use Rattle.nr_prog.specs.declared.parts.ClassParts.{ClassParts}
 
-abbrev pub is_text : Option (List ℕ) → List ℕ → Bool
-is_text None text = false
-is_text (Some bytes) text = bytes_eq bytes text
-
--- the index names this text
-abbrev pub spells : List PoolEntry → ℕ → List ℕ → Bool
-spells pool index text = is_text (text_at pool index) text
-
--- the index of the name of a class entry, or 0 for another entry
-abbrev pub name_index : Option PoolEntry → ℕ
-name_index (Some (Class name)) = name
-name_index entry = 0
-
--- the name of the class at an index
-abbrev pub class_text : List PoolEntry → ℕ → Option (List ℕ)
-class_text pool index = text_at pool (name_index (entry_at pool index))
+-- the class at the index has this name
+abbrev pub is_class_of : List ℕ → List PoolEntry → ℕ → Bool
+is_class_of name pool index = option_map_or (bytes_eq name) (class_text_at pool index) false
 
 -- the height of the operand stack after an instruction that isn't the last
 abbrev pub height_after : ℕ → ℕ → ℕ → Option ℕ
@@ -59,7 +47,7 @@ has_thin_code (Some code) = is_thin_code code
 -- the method `main`, public and static
 abbrev pub is_main : List PoolEntry → Method → Bool
 is_main pool m =
-    m.flags == 9 && (spells pool m.name (codes "main") && (spells pool m.desc (codes "([I)I") && has_thin_code m.code))
+    m.flags == 9 && (is_spelled pool (codes "main") (codes "([I)I") m.name m.desc && has_thin_code m.code)
 
 -- the number of the first method that isn't of the form, or the number of methods
 abbrev pub first_other : ClassParts → ℕ
@@ -72,7 +60,7 @@ is_class_flags flags = bit_and flags 0x31 == flags
 -- a class of the form: below Object, with no interfaces, no fields, and the one method
 abbrev pub is_thin : ClassParts → Bool
 is_thin c =
-    is_class_flags c.flags && (is_text (class_text c.pool c.super_class) (codes "java/lang/Object")
+    is_class_flags c.flags && (is_class_of (codes "java/lang/Object") c.pool c.super_class
     && (length c.interfaces == 0 && (length c.fields == 0 && (length c.methods == 1 && first_other c == 1))))
 
 -- a name that belongs to the built-in classes

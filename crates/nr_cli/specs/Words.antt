@@ -1,9 +1,10 @@
 -- The words of the command line. The project's own rules.
-use Rattle.std.specs.Prelude.{ℕ, ◌-◌, ◌^◌, ◌&&◌, ◌||◌, ◌==◌, not, Bool, true, false, List, [], ◌∷◌, ◌++◌, length, map, drop, Option, None, Some, codes, cond, nat_le, slice_index, ℤ, pos, neg_ℤ}
+use Rattle.std.specs.Prelude.{ℕ, ◌-◌, ◌^◌, ◌&&◌, ◌||◌, ◌==◌, not, Bool, List, [], ◌∷◌, ◌++◌, length, map, drop, Option, None, Some, codes, cond, nat_le, slice_index, ℤ, pos, neg_ℤ}
 use Rattle.std.specs.Char.{is_ascii_digit, is_ascii_alphanumeric}
-use Rattle.std.specs.List.{list_all}
+use Rattle.std.specs.List.{list_all, list_any}
 use Rattle.std.specs.Str.{bytes_eq}
 use Rattle.std.specs.Str.Parse.{digits_value}
+use Rattle.nr_prog.specs.LegalTests.{is_class_text}
 use Rattle.nr_cli.specs.declared.words.RunCommand.{RunCommand}
 
 -- decimal digits with no zero in front, but for the digit 0 alone
@@ -50,18 +51,13 @@ fits_word w = nat_le 1 (length w) && nat_le (length w) 255
 abbrev pub slashed : List ℕ → List ℕ
 slashed w = map (λ c. cond (c == 46) 47 c) w
 
--- A letter, a digit, `_` or `$`.
+-- an ASCII letter, a digit, or one of these
 abbrev pub is_name_byte : ℕ → Bool
-is_name_byte c = is_ascii_alphanumeric c || (c == 95 || c == 36)
+is_name_byte c = is_ascii_alphanumeric c || list_any (λ d. d == c) (codes "_$/.")
 
--- Segments of such bytes with `/` between, none of them empty. The first argument says whether a segment begins here.
-abbrev pub are_segments : Bool → List ℕ → Bool
-are_segments starts [] = not starts
-are_segments starts (c ∷ cs) = cond (c == 47) (not starts && are_segments true cs) (is_name_byte c && are_segments false cs)
-
--- the internal form of a class name, each `.` of which is read as `/` (JVM Specification 4.2.1)
+-- The internal form of a class name of such bytes, each `.` of which is read as `/` (JVM Specification 4.2.1).
 abbrev pub class_name_of : List ℕ → Option (List ℕ)
-class_name_of w = cond (fits_word w && are_segments true (slashed w)) (Some (slashed w)) None
+class_name_of w = cond (fits_word w && (list_all is_name_byte w && is_class_text (slashed w))) (Some (slashed w)) None
 
 -- `run`: the class `main` of the folder `dir` is to be run for at most `budget` steps on an array of `ints`
 pub record Command : Type 0 where

@@ -79,7 +79,8 @@ fn class_of_bytes(alloc: Global, path: &str, bytes: &[u8]) -> Result<Class, End>
 // The same, and how many bytes there are.
 fn load_bytes(alloc: Global, path: &str, bytes: &[u8]) -> Result<(Class, usize), End>
     requires { length bytes.now ≤ 1048577 }
-    ensures class { (result ≡ Err End.Memory) ⊎ (result ≡ with_len (length bytes.now) (file_class path.now bytes.now)) }
+    ensures class { (result ≡ Err End.Memory)
+        ⊎ (result ≡ with_len (length bytes.now) (file_class path.now bytes.now)) }
     ensures len { IfOk result (λ x. x.1 ≤ 1048577) }
     ensures words { result ≡ Err End.Words → ⊥ }
     ensures folder { result ≡ Err End.Folder → ⊥ }
@@ -113,8 +114,8 @@ fn load_class<F: Folder>(
     }
 }
 
-/// What is kept of class files that were read: the classes of the first two, and how many bytes all of them have, or one
-/// more than the limit where they have more.
+/// What is kept of class files that were read: the classes of the first two, and how many bytes all
+/// of them have, or one more than the limit where they have more.
 #[derive(Drop)]
 pub struct Loaded {
     pub classes: Vec<Class>,
@@ -141,7 +142,8 @@ impl Loaded {
     fn add(&mut self, class: Class, len: usize) -> Result<(), AllocError>
         requires so_far { self.old.len ≤ 67108865 }
         requires one { len ≤ 1048577 }
-        ensures classes { OnOk result (self.new.classes.items ≡ kept_with self.old.classes.items class) }
+        ensures classes { OnOk result
+            (self.new.classes.items ≡ kept_with self.old.classes.items class) }
         ensures len { OnOk result (self.new.len ≡ min (self.old.len + len) 67108865) }
     {
         if self.classes.len() < 2 {
@@ -162,7 +164,8 @@ fn load_next<F: Folder>(
 ) -> Result<(), End>
     requires { loaded.old.len ≤ 67108865 }
     ensures files { F.Tells → F.files folder.new ≡ F.files folder.old }
-    ensures ok { F.Tells → OnOk result (IsNext (loaded_at path.now (file_at dir.now path.now (F.files folder.old)))
+    ensures ok { F.Tells → OnOk result
+        (IsNext (loaded_at path.now (file_at dir.now path.now (F.files folder.old)))
         loaded.old.classes.items loaded.old.len loaded.new.classes.items loaded.new.len) }
     ensures err { F.Tells → IfErr result (λ end. (end ≡ End.Memory) ⊎ (end ≡ End.Folder)
         ⊎ (loaded_at path.now (file_at dir.now path.now (F.files folder.old)) ≡ Err end)) }
@@ -182,7 +185,8 @@ fn load_next<F: Folder>(
     }
 }
 
-/// Reads the class files at these paths, in order. The error is the end of the program, by the first that is refused.
+/// Reads the class files at these paths, in order. The error is the end of the program, by the first
+/// that is refused.
 pub fn load_all<F: Folder>(
     alloc: Global,
     folder: &mut F,
@@ -193,10 +197,12 @@ pub fn load_all<F: Folder>(
     ensures ok { F.Tells → IfOk result (λ l. IsLoaded
         (all_loaded dir.now (F.files folder.old) (map string_bytes paths.now)) l.classes.items l.len) }
     ensures err { F.Tells → IfErr result (λ end. (end ≡ End.Memory) ⊎ (end ≡ End.Folder)
-        ⊎ (all_loaded dir.now (F.files folder.old) (map string_bytes paths.now) ≡ Err end)) }
+        ⊎ (all_loaded dir.now (F.files folder.old) (map string_bytes paths.now)
+        ≡ Err end)) }
     ensures words { result ≡ Err End.Words → ⊥ }
     ensures faults { F.faults folder.old ≤ F.faults folder.new }
-    ensures cause { (F.Tells → are_listed dir.now (F.files folder.old) (map string_bytes paths.now) ≡ true)
+    ensures cause { (F.Tells
+        → are_listed dir.now (F.files folder.old) (map string_bytes paths.now) ≡ true)
         → result ≡ Err End.Folder → Rose (F.faults folder.old) (F.faults folder.new) }
 {
     let mut loaded = Loaded {

@@ -20,7 +20,7 @@ use std::alloc::Global;
 fn no_class(alloc: Global, command: &RunCommand<'_>) -> End
     ensures { (result ≡ End.Memory) ⊎ (result ≡ End.NoClass command.now.main) }
 {
-    match Items::of(alloc, command.main.as_slice()) {
+    match Items::of(alloc, command.main.as_bytes()) {
         Ok(name) => End::NoClass(name),
         Err(_) => End::Memory,
     }
@@ -72,7 +72,7 @@ fn end_of_class(alloc: Global, command: &RunCommand<'_>, class: &Class) -> End
     if has_reserved_front(name) {
         return reserved_name(alloc, name);
     }
-    if name != command.main.as_slice() {
+    if name != command.main.as_bytes() {
         return no_class(alloc, command);
     }
     end_of_code(alloc, command.budget, code_of(class))
@@ -94,7 +94,8 @@ fn refused_form(alloc: Global, path: &str, class: &Class) -> End
 // The end over one class file.
 fn end_of_one(alloc: Global, command: &RunCommand<'_>, path: &str, class: &Class) -> End
     ensures end { (result ≡ End.Memory)
-        ⊎ (result ≡ cond (is_thin class.now) (run_class (told command.now) class.now) (form_end path.now class.now)) }
+        ⊎ (result ≡ cond (is_thin class.now) (run_class (told command.now) class.now)
+        (form_end path.now class.now)) }
     ensures words { result ≡ End.Words → ⊥ }
     ensures folder { result ≡ End.Folder → ⊥ }
 {
@@ -108,7 +109,8 @@ fn end_of_one(alloc: Global, command: &RunCommand<'_>, path: &str, class: &Class
 // The end over class files of which these are the first two.
 fn end_of_two(alloc: Global, path: &str, class: &Class, second: &str, other: &Class) -> End
     ensures end { (result ≡ End.Memory)
-        ⊎ (result ≡ cond (is_thin class.now) (form_end second.now other.now) (form_end path.now class.now)) }
+        ⊎ (result ≡ cond (is_thin class.now) (form_end second.now other.now)
+        (form_end path.now class.now)) }
     ensures words { result ≡ End.Words → ⊥ }
     ensures folder { result ≡ End.Folder → ⊥ }
 {
@@ -157,7 +159,8 @@ fn end_of_long(alloc: Global, command: &RunCommand<'_>, paths: &[String]) -> End
 // The end over class files that were read.
 fn end_of_loaded(alloc: Global, command: &RunCommand<'_>, paths: &[String], loaded: &Loaded) -> End
     ensures end { (result ≡ End.Memory)
-        ⊎ (result ≡ folder_end (told command.now) (map string_bytes paths.now) loaded.now.len loaded.now.classes.items) }
+        ⊎ (result ≡ folder_end (told command.now) (map string_bytes paths.now)
+        loaded.now.len loaded.now.classes.items) }
     ensures words { result ≡ End.Words → ⊥ }
     ensures folder { result ≡ End.Folder → ⊥ }
 {

@@ -110,7 +110,8 @@ fn put_class(alloc: Global, text: &mut Put, fault: ClassFault) -> Result<(), All
 // A fault of the profile, at an offset, with a code.
 fn put_profile(alloc: Global, text: &mut Put, at: u32, code: u8) -> Result<(), AllocError>
     ensures { OnOk result
-        (text.new ≡ text.old ++ (codes "OutOfProfile " ++ decimal at ++ codes " " ++ decimal code)) }
+        (text.new ≡ text.old
+        ++ (codes "OutOfProfile " ++ decimal at ++ codes " " ++ decimal code)) }
 {
     text.bytes(format!(in alloc; "OutOfProfile {at} {code}")?.as_bytes())
 }
@@ -149,7 +150,8 @@ fn put_method(
     fault: CodeFault,
 ) -> Result<(), AllocError>
     ensures { OnOk result
-        (text.new ≡ text.old ++ (codes "Code " ++ decimal method ++ codes " " ++ spelled_code fault)) }
+        (text.new ≡ text.old
+        ++ (codes "Code " ++ decimal method ++ codes " " ++ spelled_code fault)) }
 {
     text.bytes(format!(in alloc; "Code {method} ")?.as_bytes())?;
     put_code(alloc, text, fault)

@@ -3,7 +3,7 @@ ghost use Rattle.std.specs.Prelude.{◌≡◌, ◌⊎◌, ◌++◌, false, None,
 ghost use Rattle.nr_outside.specs.Causes.{Rose};
 ghost use Rattle.nr_outside.specs.Bytes.{AddsPart};
 ghost use Rattle.nr_cli.specs.Words.{command_of};
-ghost use Rattle.nr_cli.specs.Ending.{SaysPart, line, status_of, out_of, err_of};
+ghost use Rattle.nr_cli.specs.Ending.{EndsAs, SaysPart, line, status_of, out_of, err_of};
 ghost use Rattle.nr_cli.specs.Plan.{end_of};
 ghost use Rattle.nr_cli.specs.declared.ending.End.{End};
 
@@ -15,10 +15,10 @@ use std::alloc::Global;
 
 /// Does what the words after the program's name say, and gives the status of the process.
 ///
-/// `run DIR MAIN BUDGET` and then 0 to 1,000 words INT runs the class MAIN of the folder DIR for at most BUDGET
-/// steps. Other words are refused. The status is 0 where `main` returned, 2 where the words fit no command, 3
-/// where the folder failed, 4 where a class file is refused, 5 where there is no class MAIN, 9 where the run made
-/// BUDGET steps without an end, 11 where a sink failed and 12 where memory ran out.
+/// `run DIR MAIN BUDGET` and then 0 to 1,000 words INT runs the class MAIN of the folder DIR for at most
+/// BUDGET steps. Other words are refused. The status is 0 where `main` returned, 2 where the words fit no
+/// command, 3 where the folder failed, 4 where a class file is refused, 5 where there is no class MAIN, 9
+/// where the run made BUDGET steps without an end, 11 where a sink failed and 12 where memory ran out.
 pub fn nrmi<F: Folder, W: Wire, O: Sink, E: Sink>(
     alloc: Global,
     words: &[&str],
@@ -43,26 +43,34 @@ pub fn nrmi<F: Folder, W: Wire, O: Sink, E: Sink>(
 
     // What is written.
     ensures out { F.Tells → O.Tells → (result ≡ 3 → ⊥) → (result ≡ 11 → ⊥) → (result ≡ 12 → ⊥)
-        → O.bytes out.new ≡ O.bytes out.old ++ out_of (end_of (map (λ w. w.now) words.now) (F.files folder.old)) }
+        → O.bytes out.new ≡ O.bytes out.old
+        ++ out_of (end_of (map (λ w. w.now) words.now) (F.files folder.old)) }
     ensures part { F.Tells → O.Tells → AddsPart (O.bytes out.old) (O.bytes out.new)
         (out_of (end_of (map (λ w. w.now) words.now) (F.files folder.old))) }
+    ensures folder_out { O.Tells → result ≡ 3 → O.bytes out.new ≡ O.bytes out.old }
     ensures err { F.Tells → E.Tells → (result ≡ 3 → ⊥) → (result ≡ 11 → ⊥) → (result ≡ 12 → ⊥)
-        → E.bytes err.new ≡ E.bytes err.old ++ err_of (end_of (map (λ w. w.now) words.now) (F.files folder.old)) }
+        → E.bytes err.new ≡ E.bytes err.old
+        ++ err_of (end_of (map (λ w. w.now) words.now) (F.files folder.old)) }
     ensures said { F.Tells → E.Tells → SaysPart (E.bytes err.old) (E.bytes err.new)
         (err_of (end_of (map (λ w. w.now) words.now) (F.files folder.old)))
-        (Rose (F.faults folder.old) (F.faults folder.new)) (Rose (O.faults out.old) (O.faults out.new)) }
-    ensures said_untold { E.Tells → (end : End) × SaysPart (E.bytes err.old) (E.bytes err.new)
-        (err_of end)
-        (Rose (F.faults folder.old) (F.faults folder.new)) (Rose (O.faults out.old) (O.faults out.new)) }
-    ensures folder_line { E.Tells → result ≡ 3 → E.bytes err.new ≡ E.bytes err.old
-        ++ line (codes "folder") }
+        (Rose (F.faults folder.old) (F.faults folder.new))
+        (Rose (O.faults out.old) (O.faults out.new)) }
+    ensures folder_line { E.Tells → result ≡ 3
+        → E.bytes err.new ≡ E.bytes err.old ++ line (codes "folder") }
     ensures sink_line { E.Tells → result ≡ 11 → (Rose (E.faults err.old) (E.faults err.new) → ⊥)
         → E.bytes err.new ≡ E.bytes err.old ++ line (codes "sink") }
+
+    // Whether the folder tells its files or not, all this is so for one end.
+    ensures ends { (end : End) × EndsAs end result
+        O.Tells (O.bytes out.old) (O.bytes out.new) E.Tells (E.bytes err.old) (E.bytes err.new)
+        (Rose (F.faults folder.old) (F.faults folder.new))
+        (Rose (O.faults out.old) (O.faults out.new)) }
 
     // Where `main` returns and nothing of the outside fails, so it is said, unless memory runs out.
     ensures returns { (n : ℤ) → F.Tells
         → end_of (map (λ w. w.now) words.now) (F.files folder.old) ≡ End.Returned n
-        → (Rose (F.faults folder.old) (F.faults folder.new) → ⊥) → (Rose (O.faults out.old) (O.faults out.new) → ⊥)
+        → (Rose (F.faults folder.old) (F.faults folder.new) → ⊥)
+        → (Rose (O.faults out.old) (O.faults out.new) → ⊥)
         → (Rose (E.faults err.old) (E.faults err.new) → ⊥) → (result ≡ 0) ⊎ (result ≡ 12) }
 {
     let end = plan(alloc, words, folder);

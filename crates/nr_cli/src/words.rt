@@ -1,19 +1,21 @@
 //! The words of the command line.
-ghost use Rattle.std.specs.Prelude.{◌≡◌, ◌^◌, ◌<◌, ◌≤◌, ◌-◌, IfOk, MatchOption, map, true, []};
+ghost use Rattle.std.specs.Prelude.{◌≡◌, ◌^◌, ◌<◌, ◌≤◌, ◌-◌, length, vec_len, cond, None, Some, IfOk, MatchOption, map, true, []};
 ghost use Rattle.std.specs.Option.{option_map};
 ghost use Rattle.std.specs.Char.{is_ascii_digit};
 ghost use Rattle.std.specs.List.{list_all};
 ghost use Rattle.std.specs.Str.Parse.{digits_value};
-ghost use Rattle.nr_cli.specs.Words.{is_number, number_within, budget_of, int_of, ints_onto, ints_of, fits_word, slashed, is_name_byte, are_segments, class_name_of, command_of, told};
+ghost use Rattle.nr_base.specs.Names.{is_name};
+ghost use Rattle.nr_prog.specs.LegalTests.{is_class_text};
+ghost use Rattle.nr_cli.specs.Words.{is_number, number_within, budget_of, int_of, ints_onto, ints_of, fits_word, slashed, is_name_byte, class_name_of, command_of, told};
 
-use nr_base::Items;
+use nr_base::{Items, Name, NameFault};
 use std::alloc::{AllocError, Global};
 
 /// The command `run`: which class of which folder, for how many steps at most, on which numbers.
 #[derive(Drop)]
 pub struct RunCommand<'a> {
     pub dir: &'a str,
-    pub main: Items<u8>,
+    pub main: Name,
     pub budget: u32,
     pub ints: Items<i32>,
 }
@@ -108,33 +110,19 @@ fn is_word(word: &str) -> bool
 fn is_part_of_name(byte: u8) -> bool
     ensures { result ≡ is_name_byte byte }
 {
-    byte.is_ascii_alphanumeric() || byte == b'_' || byte == b'$'
+    byte.is_ascii_alphanumeric() || matches!(byte, b'_' | b'$' | b'/' | b'.')
 }
 
-// Whether the bytes are segments with `/` between, none of them empty.
-pub fn is_segmented(bytes: &[u8]) -> bool
-    ensures { result ≡ are_segments true bytes.now }
+fn has_name_bytes(word: &[u8]) -> bool
+    ensures { result ≡ list_all is_name_byte word.now }
 {
-    let mut starts = true;
-    for byte in bytes {
-        if *byte == b'/' {
-            if starts {
-                return false;
-            }
-            starts = true;
-        } else {
-            if !is_part_of_name(*byte) {
-                return false;
-            }
-            starts = false;
-        }
-    }
-    !starts
+    word.iter().all(|byte| is_part_of_name(*byte))
 }
 
 // The word with each `.` as `/`.
 fn with_slashes(alloc: Global, word: &str) -> Result<Vec<u8>, AllocError>
-    ensures { IfOk result (λ name. name.items ≡ slashed word.now) }
+    ensures name { IfOk result (λ name. name.items ≡ slashed word.now) }
+    ensures len { IfOk result (λ name. vec_len name ≡ length word.now) }
 {
     word.as_bytes()
         .iter()
@@ -142,21 +130,45 @@ fn with_slashes(alloc: Global, word: &str) -> Result<Vec<u8>, AllocError>
         .collect(alloc)
 }
 
+// The name that the bytes are.
+fn read_name(alloc: Global, bytes: &[u8]) -> Result<Option<Name>, AllocError>
+    requires { length bytes.now < 2 ^ 16 }
+    ensures { IfOk result (λ o. o ≡ cond (is_name bytes.now) (Some bytes.now) None) }
+{
+    match Name::read(alloc, bytes) {
+        Ok(name) => Ok(Some(name)),
+        Err(NameFault::NoMemory) => Err(AllocError),
+        Err(_) => Ok(None),
+    }
+}
+
+// The name of a class that the bytes are.
+fn legal_name(alloc: Global, bytes: &[u8]) -> Result<Option<Name>, AllocError>
+    requires { length bytes.now < 2 ^ 16 }
+    ensures { IfOk result (λ o. o ≡ cond (is_class_text bytes.now) (Some bytes.now) None) }
+{
+    let Some(name) = read_name(alloc, bytes)? else {
+        return Ok(None);
+    };
+    if !name.is_class_name() {
+        return Ok(None);
+    }
+    Ok(Some(name))
+}
+
 // The internal form of a class name.
-fn read_class_name(alloc: Global, word: &str) -> Result<Option<Items<u8>>, AllocError>
+fn read_class_name(alloc: Global, word: &str) -> Result<Option<Name>, AllocError>
     ensures { IfOk result (λ o. o ≡ class_name_of word.now) }
 {
-    if !is_word(word) {
+    if !is_word(word) || !has_name_bytes(word.as_bytes()) {
         return Ok(None);
     }
     let name = with_slashes(alloc, word)?;
-    if !is_segmented(&name) {
-        return Ok(None);
-    }
-    Ok(Some(Items::from_vec(name)))
+    legal_name(alloc, &name)
 }
 
-/// The command that the words after the program's name give, or none where they fit no row of the word table.
+/// The command that the words after the program's name give, or none where they fit no row of the
+/// word table.
 pub fn read_words<'a>(
     alloc: Global,
     words: &[&'a str],

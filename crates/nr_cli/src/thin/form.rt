@@ -1,18 +1,25 @@
 //! Which classes are of the form.
 ghost use Rattle.std.specs.Prelude.{◌≡◌, ◌≤◌, take_while, codes, option_copied};
-ghost use Rattle.nr_cli.specs.Thin.{is_text, class_text, is_main, first_other, is_class_flags, is_thin, first_code};
+ghost use Rattle.nr_prog.specs.Members.{is_spelled};
+ghost use Rattle.nr_cli.specs.Thin.{is_class_of, is_main, first_other, is_class_flags, is_thin, first_code};
 
 use crate::thin::code::has_code;
-use crate::thin::names::{class_name, is_spelled};
+use crate::thin::names::{class_name, is_text};
 use nr_prog::{Class, Code, Method};
+
+// Whether a method has the name and the descriptor of `main`.
+#[tactic(auto, unfolding(nr_prog::specs::Members::is_spelled))]
+fn is_named_main(class: &Class, method: &Method) -> bool
+    ensures { result ≡ is_spelled class.now.pool (codes "main") (codes "([I)I")
+        method.now.name method.now.desc }
+{
+    is_text(class, method.name, b"main") && is_text(class, method.desc, b"([I)I")
+}
 
 fn is_main_method(class: &Class, method: &Method) -> bool
     ensures { result ≡ is_main class.now.pool method.now }
 {
-    method.flags == 9
-        && is_spelled(class, method.name, b"main")
-        && is_spelled(class, method.desc, b"([I)I")
-        && has_code(method.code.as_ref())
+    method.flags == 9 && is_named_main(class, method) && has_code(method.code.as_ref())
 }
 
 /// How many methods at the front are of the form.
@@ -39,11 +46,10 @@ fn are_class_flags(flags: u16) -> bool
 
 // Whether the superclass is Object.
 fn is_below_object(class: &Class) -> bool
-    ensures { result ≡ is_text (class_text class.now.pool class.now.super_class)
-        (codes "java/lang/Object") }
+    ensures { result ≡ is_class_of (codes "java/lang/Object") class.now.pool class.now.super_class }
 {
     match class_name(class, class.parts().super_class) {
-        Some(name) => name == b"java/lang/Object".as_slice(),
+        Some(name) => b"java/lang/Object".as_slice() == name,
         None => false,
     }
 }
