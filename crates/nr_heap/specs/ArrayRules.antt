@@ -1,46 +1,26 @@
 -- The rules of instructions on arrays (JVM Specification 6.5, each under its mnemonic). A rule is given what follows it.
-use Rattle.std.specs.Prelude.{ℕ, zero, suc, ◌%◌, ℤ, pos, negsuc, Bool, true, false, not, ◌&&◌, ◌||◌, List, [], ◌∷◌, Option, replicate, if◌then◌else◌}
+use Rattle.std.specs.Prelude.{ℕ, zero, suc, ◌%◌, ℤ, pos, negsuc, Bool, true, false, ◌||◌, List, [], ◌∷◌, replicate, if◌then◌else◌}
 use Rattle.std.specs.Int.{w8, w16, w32, int_wrap, cast_unsigned}
 use Rattle.nr_optable.specs.declared.table.Letter.{Letter}
 use Rattle.nr_optable.specs.declared.table.Letter.TheVariants as letters
 use Rattle.nr_optable.specs.Arithmetic.{to_char}
-use Rattle.nr_optable.specs.Operations.{beside}
 use Rattle.nr_linked.specs.declared.program.built_in.BuiltIn.TheVariants.{ArrayStoreException, NegativeArraySizeException}
 use Rattle.nr_linked.specs.declared.program.kind.Base.{Base}
 use Rattle.nr_linked.specs.declared.program.kind.Base.TheVariants as bases
 use Rattle.nr_linked.specs.declared.program.kind.Kind.{Kind}
 use Rattle.nr_linked.specs.declared.program.tables.ProgramTables.{ProgramTables}
-use Rattle.nr_linked.specs.Kinds.{array_of, element_of, is_array, is_reference, is_same_primitive}
+use Rattle.nr_linked.specs.ArrayKinds.{elements_of, is_element}
+use Rattle.nr_linked.specs.Kinds.{array_of, element_of, is_array}
 use Rattle.nr_linked.specs.Subtypes.{is_sub}
 use Rattle.nr_heap.specs.Scripts.{PlainInt, PlainLong, Script, Stuck, Push, PopInt, PopLong, Pick, Drop, AskNull, AskKind, ReadSlot, WriteSlot, Make}
 use Rattle.nr_heap.specs.Throws.{zero_of, throw_new, not_null, at_index, with_found, which}
 
 -- ---- loads and stores
 
-abbrev pub is_primitive : Base → Kind → Bool
-is_primitive base k = not (is_array k) && is_same_primitive base k.base
-
--- the components that the array of a load or a store has, by the instruction's code
-abbrev pub components : ℕ → Option (Kind → Bool)
-components code = beside code (
-    (46, is_primitive bases.Int) ∷  -- iaload
-    (47, is_primitive bases.Long) ∷  -- laload
-    (50, is_reference) ∷  -- aaload
-    (51, λ k. is_primitive bases.Byte k || is_primitive bases.Bool k) ∷  -- baload
-    (52, is_primitive bases.Char) ∷  -- caload
-    (53, is_primitive bases.Short) ∷  -- saload
-    (79, is_primitive bases.Int) ∷  -- iastore
-    (80, is_primitive bases.Long) ∷  -- lastore
-    (83, is_reference) ∷  -- aastore
-    (84, λ k. is_primitive bases.Byte k || is_primitive bases.Bool k) ∷  -- bastore
-    (85, is_primitive bases.Char) ∷  -- castore
-    (86, is_primitive bases.Short) ∷  -- sastore
-    [])
-
 -- k of the components' kind and the index, where the reference at the depth isn't null and its array has the index
 abbrev pub in_array : ProgramTables → ℕ → ℕ → ℤ → (Kind → ℕ → Script) → Script
-in_array P code d i k = with_found (components code) (λ fits. not_null P d (AskKind d (λ kind n.
-    with_found (element_of kind) (λ e. which (fits e) (at_index P n i (k e))))))
+in_array P code d i k = with_found (elements_of code) (λ elements. not_null P d (AskKind d (λ kind n.
+    with_found (element_of kind) (λ e. which (is_element elements e) (at_index P n i (k e))))))
 
 -- iaload, laload, aaload, baload, caload, saload
 abbrev pub array_load : ProgramTables → ℕ → Script → Script
@@ -73,11 +53,6 @@ abbrev pub array_length : ProgramTables → Script → Script
 array_length P k = not_null P 0 (AskKind 0 (λ kind n. which (is_array kind) (Drop 0 (Push (PlainInt (pos n)) k))))
 
 -- ---- new arrays
-
--- the primitive type of a code (table 6.5.newarray-A)
-abbrev pub primitive_type : ℕ → Option Base
-primitive_type code = beside code (
-    (4, bases.Bool) ∷ (5, bases.Char) ∷ (8, bases.Byte) ∷ (9, bases.Short) ∷ (10, bases.Int) ∷ (11, bases.Long) ∷ [])
 
 abbrev pub make_array : Kind → ℕ → Script → Script
 make_array e n k = Make (array_of e) (replicate n (zero_of e)) k

@@ -1,11 +1,12 @@
 -- The rules of calls (JVM Specification 6.5, invokevirtual, invokespecial, invokestatic, invokeinterface), and what the
 -- methods of the built-in classes do. A call of one of those is one step and makes no frame (the project's own). A rule
 -- is given what follows it.
-use Rattle.std.specs.Prelude.{ℕ, zero, suc, Bool, not, ◌&&◌, ◌||◌, List, [], ◌∷◌, length, Option, Some, None, is_some, ◌==◌, codes, if◌then◌else◌}
-use Rattle.std.specs.Str.{bytes_eq}
+use Rattle.std.specs.Prelude.{ℕ, zero, suc, not, ◌&&◌, ◌||◌, List, [], ◌∷◌, length, Option, Some, None, is_some, ◌==◌, codes, if◌then◌else◌}
 use Rattle.std.specs.Option.{option_and_then}
 use Rattle.std.specs.Fmt.{signed_decimal}
 use Rattle.nr_optable.specs.Arithmetic.{to_char}
+use Rattle.nr_linked.specs.ArrayKinds.{is_base}
+use Rattle.nr_linked.specs.Initialisers.{is_initialiser}
 use Rattle.nr_linked.specs.declared.program.built_in.BuiltIn.TheVariants.{AbstractMethodError, IncompatibleClassChangeError, Object, Out}
 use Rattle.nr_linked.specs.declared.program.kind.Base.TheVariants as bases
 use Rattle.nr_linked.specs.declared.program.kind.Kind.{Kind}
@@ -21,7 +22,6 @@ use Rattle.nr_linked.specs.Subtypes.{is_sub}
 use Rattle.nr_heap.specs.Heaps.{on_some}
 use Rattle.nr_heap.specs.Scripts.{Script, Call, PopInt, PopLong, Pick, Drop, AskKind, ReadSlot, Print}
 use Rattle.nr_heap.specs.Throws.{throw_new, not_null, with_found, which}
-use Rattle.nr_heap.specs.ArrayRules.{is_primitive}
 use Rattle.nr_heap.specs.Printing.{bytes_of_units}
 
 -- how many operands a call of the method takes: its arguments, and the receiver below them
@@ -38,7 +38,7 @@ with_units (suc i) us k = Pick 0 (ReadSlot i (PopInt (λ u. with_units i (to_cha
 -- print([C)V
 abbrev pub print_chars : ProgramTables → Script → Script
 print_chars P k = not_null P 0 (AskKind 0 (λ kind n. with_found (element_of kind) (λ e.
-    which (is_primitive bases.Char e) (with_units n [] (λ us. Drop 0 (Print (bytes_of_units us) k))))))
+    which (is_base bases.Char e) (with_units n [] (λ us. Drop 0 (Print (bytes_of_units us) k))))))
 
 -- what a method of nrmi/Out does
 abbrev pub out_rule : ProgramTables → MethodInfo → Script → Option Script
@@ -50,9 +50,6 @@ out_rule P i k =
     else (if is_called (codes "print") (codes "(J)V") i then Some (PopLong (λ n. Print (signed_decimal n) k))
     else (if is_called (codes "line") (codes "()V") i then Some (Print (10 ∷ []) k)
     else None))))
-
-abbrev pub is_initialiser : MethodInfo → Bool
-is_initialiser i = bytes_eq i.name (codes "<init>")
 
 -- the rule of a method without code, if it is a built-in one; an initialiser does nothing
 abbrev pub built_in_rule : ProgramTables → MethodInfo → Script → Option Script

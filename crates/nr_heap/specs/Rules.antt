@@ -18,8 +18,10 @@ use Rattle.nr_linked.specs.declared.program.tables.Resolved.TheVariants as resol
 use Rattle.nr_linked.specs.Sites.{Site}
 use Rattle.nr_heap.specs.Scripts.{Script, GoTo, Return, ReturnTop, Stuck, Push, PlainNull}
 use Rattle.nr_heap.specs.Throws.{typed, onward, with_found}
-use Rattle.nr_heap.specs.ValueRules.{small_constant, pool_constant, first_load, first_store, local_of, load, store, increment, drop_top, dup, dup_x1, dup_x2, dup2, dup2_x1, dup2_x2, swap, two_operands, division, negation, shift, conversion, comparison, test_int, test_two, test_references, table_switch, lookup_switch}
-use Rattle.nr_heap.specs.ArrayRules.{array_load, array_store, array_length, primitive_type, new_array, new_arrays}
+use Rattle.nr_linked.specs.ArrayKinds.{primitive_of}
+use Rattle.nr_linked.specs.LocalNumbers.{first_load, first_store, local_of}
+use Rattle.nr_heap.specs.ValueRules.{small_constant, pool_constant, load, store, increment, drop_top, dup, dup_x1, dup_x2, dup2, dup2_x1, dup2_x2, swap, two_operands, division, negation, shift, conversion, comparison, test_int, test_two, test_references, table_switch, lookup_switch}
+use Rattle.nr_heap.specs.ArrayRules.{array_load, array_store, array_length, new_array, new_arrays}
 use Rattle.nr_heap.specs.ObjectRules.{get_field, put_field, new_of, throw_top, check_cast, instance_of}
 use Rattle.nr_heap.specs.CallRules.{call, invoke_virtual, invoke_special, invoke_interface}
 
@@ -60,7 +62,7 @@ switch_rule a = Stuck
 
 -- newarray; anewarray, of the named components; multianewarray, of the named kind
 abbrev pub array_rule : ProgramTables → Args → Resolved → Script → Script
-array_rule P (args.Prim code) found k = with_found (primitive_type code) (λ base.
+array_rule P (args.Prim code) found k = with_found (primitive_of code) (λ base.
     new_array P (record { dims = 0; base = base }) k)
 array_rule P (args.Pool i) (resolved.Kind e) k = new_array P e k
 array_rule P (args.Dims i dims) (resolved.Kind kind) k = new_arrays P kind dims k

@@ -1,12 +1,13 @@
 -- Steps and runs (JVM Specification 2.6, 2.10, 6.5). A step is one instruction, with the search for a handler where it
 -- throws. No step leads on from an end.
-use Rattle.std.specs.Prelude.{◌≡◌, ℕ, zero, suc, ◌-◌, Bool, true, ◌&&◌, List, [], ◌∷◌, ◌++◌, length, reverse, take, drop, replicate, Option, Some, None, IsSomeAnd, nat_lt, nat_le, if◌then◌else◌}
+use Rattle.std.specs.Prelude.{◌≡◌, ℕ, zero, suc, ◌-◌, Bool, true, ◌&&◌, List, [], ◌∷◌, ◌++◌, length, reverse, take, drop, replicate, Option, Some, None, IsSomeAnd, nat_le, if◌then◌else◌}
 use Rattle.std.specs.Option.{option_map, option_and_then}
 use Rattle.std.specs.FinMap.{get}
 use Rattle.nr_prog.specs.declared.member.Handler.{Handler}
 use Rattle.nr_linked.specs.declared.program.kind.Kind.{Kind}
 use Rattle.nr_linked.specs.declared.program.tables.MethodInfo.{MethodInfo}
 use Rattle.nr_linked.specs.declared.program.tables.ProgramTables.{ProgramTables}
+use Rattle.nr_linked.specs.Handlers.{covers}
 use Rattle.nr_linked.specs.Programs.{method_at}
 use Rattle.nr_linked.specs.Sites.{site_at}
 use Rattle.nr_linked.specs.Subtypes.{is_sub}
@@ -20,9 +21,6 @@ use Rattle.nr_heap.specs.States.{Frame, Control, Running, Returned, Thrown, Stat
 
 -- ---- throws (2.10, 4.7.3 exception_table): to the first handler in the table's order
 
-abbrev pub covers : ℕ → Handler → Bool
-covers offset h = nat_le h.start offset && nat_lt offset h.end
-
 abbrev pub catches : ProgramTables → Kind → Option Kind → Bool
 catches P kind None = true
 catches P kind (Some c) = is_sub P kind c
@@ -30,7 +28,7 @@ catches P kind (Some c) = is_sub P kind c
 -- where the first handler begins that covers the offset and catches the kind; the handlers with what they catch
 abbrev pub first_handler : ProgramTables → ℕ → Kind → List Handler → List (Option Kind) → Option ℕ
 first_handler P offset kind (h ∷ hs) (c ∷ cs) =
-    if covers offset h && catches P kind c then Some h.handler else first_handler P offset kind hs cs
+    if covers h offset && catches P kind c then Some h.handler else first_handler P offset kind hs cs
 first_handler P offset kind hs cs = None
 
 abbrev pub handler_at : ProgramTables → ℕ → ℕ → Kind → Option ℕ

@@ -1,14 +1,13 @@
 -- The rules of instructions that move and compute values alone (JVM Specification 6.5, each under its mnemonic). A rule
 -- is given what follows it.
-use Rattle.std.specs.Prelude.{ℕ, zero, suc, ◌+◌, ◌-◌, ℤ, pos, negsuc, ◌-ℤ◌, Bool, not, List, ◌∷◌, Option, Some, None, slice_get, nat_le, ◌==◌, if◌then◌else◌}
+use Rattle.std.specs.Prelude.{ℕ, zero, suc, ◌+◌, ◌-◌, ℤ, pos, negsuc, ◌-ℤ◌, Bool, not, List, ◌∷◌, Option, slice_get, nat_le, ◌==◌, if◌then◌else◌}
 use Rattle.std.specs.Int.{w32, w64, int_wrap}
 use Rattle.std.specs.Ordering.{int_eq}
 use Rattle.nr_optable.specs.declared.table.Letter.{Letter}
-use Rattle.nr_optable.specs.declared.table.Letter.TheVariants as letters
 use Rattle.nr_optable.specs.Arithmetic.{add, negate, compare}
 use Rattle.nr_optable.specs.Operations.{int_operation, long_operation, int_division, long_division, int_shift, long_shift, int_narrowing, zero_condition, pair_condition}
 use Rattle.nr_prog.specs.declared.body.instruction.Args.{Args}
-use Rattle.nr_prog.specs.declared.body.instruction.Args.TheVariants.{Empty, Local, Num}
+use Rattle.nr_prog.specs.declared.body.instruction.Args.TheVariants.{Empty, Num}
 use Rattle.nr_linked.specs.declared.program.built_in.BuiltIn.TheVariants.{ArithmeticException}
 use Rattle.nr_linked.specs.declared.program.tables.ProgramTables.{ProgramTables}
 use Rattle.nr_linked.specs.declared.program.tables.Resolved.{Resolved}
@@ -33,24 +32,6 @@ pool_constant (resolved.Long n) k = Push (PlainLong n) k
 pool_constant found k = Stuck
 
 -- ---- local variables
-
--- the first code of the group with the local's number in the code: iload_0, lload_0, aload_0; istore_0, lstore_0,
--- astore_0
-abbrev pub first_load : Letter → ℕ
-first_load letters.I = 26
-first_load letters.J = 30
-first_load letter = 42
-
-abbrev pub first_store : Letter → ℕ
-first_store letters.I = 59
-first_store letters.J = 63
-first_store letter = 75
-
--- the number of the local: the operand, or what the code says
-abbrev pub local_of : ℕ → ℕ → Args → Option ℕ
-local_of first code (Local i) = Some i
-local_of first code Empty = Some (code - first)
-local_of first code args = None
 
 -- iload, lload, aload
 abbrev pub load : Letter → ℕ → Script → Script

@@ -1,7 +1,7 @@
 -- Small methods, and the first check of each that fails, by computing.
 use Rattle.std.proofs.Common.{◌≡◌, refl}
-use Rattle.std.specs.Prelude.{ℕ, ℤ, pos, List, [], ◌∷◌, ◌++◌, length, Option, Some, None, codes, bit_and}
-use Rattle.nr_optable.specs.Rows.{op, none, one, two, all_rows}
+use Rattle.std.specs.Prelude.{ℕ, pos, List, [], ◌∷◌, Option, Some, None, codes}
+use Rattle.nr_optable.specs.Rows.{op, none, one, two}
 use Rattle.nr_optable.specs.declared.table.Row.{Row}
 use Rattle.nr_optable.specs.declared.table.Family.TheVariants.{F1, F2, F3, F4, F6, F7, F9, F12, F26, F28, F31, F32, F33, F36}
 use Rattle.nr_optable.specs.declared.table.Shape.TheVariants as shapes
@@ -10,14 +10,12 @@ use Rattle.nr_optable.specs.declared.table.Kinds.TheVariants.{Own}
 use Rattle.nr_prog.specs.declared.body.instruction.Args.{Args}
 use Rattle.nr_prog.specs.declared.body.instruction.Args.TheVariants.{Empty, Branch, Inc, Pool}
 use Rattle.nr_prog.specs.declared.body.instruction.Instr.{Instr}
-use Rattle.nr_prog.specs.declared.body.whole.Body.{Body}
 use Rattle.nr_prog.specs.declared.member.Handler.{Handler}
 use Rattle.nr_linked.specs.declared.program.kind.Base.TheVariants as bases
 use Rattle.nr_linked.specs.declared.program.kind.Kind.{Kind}
 use Rattle.nr_linked.specs.declared.program.tables.ClassInfo.{ClassInfo}
 use Rattle.nr_linked.specs.declared.program.tables.MethodInfo.{MethodInfo}
 use Rattle.nr_linked.specs.declared.program.tables.ProgramTables.{ProgramTables}
-use Rattle.nr_linked.specs.declared.program.tables.SlotInfo.{SlotInfo}
 use Rattle.nr_linked.specs.declared.program.tables.Resolved.{Resolved}
 use Rattle.nr_linked.specs.declared.program.tables.Resolved.TheVariants as resolved
 use Rattle.nr_linked.specs.declared.program.types.VFrame.{VFrame}

@@ -8,6 +8,10 @@ pub mod Selection
 pub mod Sendable
 pub mod Restorable
 pub mod Sites
+pub mod Initialisers
+pub mod Handlers
+pub mod LocalNumbers
+pub mod ArrayKinds
 pub mod TypingFrames
 pub mod TypingChecks
 pub mod TypingLocals

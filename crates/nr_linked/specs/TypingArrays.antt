@@ -1,8 +1,7 @@
 -- The typing rules of arrays (JVM Specification 4.10.1.9: iaload to saload, iastore to sastore, newarray, anewarray,
 -- multianewarray, arraylength).
-use Rattle.std.specs.Prelude.{ℕ, List, [], ◌∷◌, Bool, true, false, not, ◌&&◌, ◌||◌, Option, Some, None}
+use Rattle.std.specs.Prelude.{ℕ, List, ◌∷◌, Bool, true, false, Option, Some, None}
 use Rattle.std.specs.Option.{option_map_or}
-use Rattle.nr_optable.specs.Operations.{beside}
 use Rattle.nr_prog.specs.declared.body.instruction.Args.{Args}
 use Rattle.nr_prog.specs.declared.body.instruction.Args.TheVariants as args
 use Rattle.nr_linked.specs.declared.program.built_in.BuiltIn.TheVariants as built_ins
@@ -17,44 +16,13 @@ use Rattle.nr_linked.specs.declared.program.types.VType.{VType}
 use Rattle.nr_linked.specs.declared.program.types.VType.TheVariants.{Int, Long, Null, Class}
 use Rattle.nr_linked.specs.declared.typing.fault.Wanted.{Wanted}
 use Rattle.nr_linked.specs.declared.typing.fault.Wanted.TheVariants as wanted
-use Rattle.nr_linked.specs.Kinds.{class_kind, array_of, element_of, is_array, is_reference, is_same_primitive}
+use Rattle.nr_linked.specs.Kinds.{class_kind, array_of, element_of, is_array}
+use Rattle.nr_linked.specs.ArrayKinds.{Elements, Of, Bytes, References, elements_of, is_element, primitive_of}
 use Rattle.nr_linked.specs.BuiltIns.{built_in}
 use Rattle.nr_linked.specs.TypingFrames.{TypeFrame, of_base, is_long}
 use Rattle.nr_linked.specs.TypingChecks.{Checked, NoRule, take_int, take_ints, take_that, take_reference, leaves_operands}
 
 -- ---- loads and stores
-
--- what the arrays of an instruction hold: values of a primitive type, booleans or bytes, or references
-pub data Elements : Type 0 where
-  Of : Base → Elements
-  Bytes : Elements
-  References : Elements
-
--- by the instruction's code
-abbrev pub elements_of : ℕ → Option Elements
-elements_of code = beside code (
-    (46, Of bases.Int) ∷  -- iaload
-    (47, Of bases.Long) ∷  -- laload
-    (50, References) ∷  -- aaload
-    (51, Bytes) ∷  -- baload
-    (52, Of bases.Char) ∷  -- caload
-    (53, Of bases.Short) ∷  -- saload
-    (79, Of bases.Int) ∷  -- iastore
-    (80, Of bases.Long) ∷  -- lastore
-    (83, References) ∷  -- aastore
-    (84, Bytes) ∷  -- bastore
-    (85, Of bases.Char) ∷  -- castore
-    (86, Of bases.Short) ∷  -- sastore
-    [])
-
--- the kind is this primitive type
-abbrev pub is_base : Base → Kind → Bool
-is_base base k = not (is_array k) && is_same_primitive base k.base
-
-abbrev pub is_element : Elements → Kind → Bool
-is_element (Of base) k = is_base base k
-is_element Bytes k = is_base bases.Byte k || is_base bases.Bool k
-is_element References k = is_reference k
 
 -- an array with such elements, or null
 abbrev pub is_array_with : Elements → VType → Bool
@@ -109,11 +77,6 @@ abbrev pub length_rule : MethodInfo → TypeFrame → Checked
 length_rule m f = take_that is_any_array wanted.AnyReference 0 f.operands (λ a ts. leaves_operands m f (Int ∷ ts))
 
 -- ---- new arrays
-
--- the primitive type of a code (table 6.5.newarray-A)
-abbrev pub primitive_of : ℕ → Option Base
-primitive_of code = beside code (
-    (4, bases.Bool) ∷ (5, bases.Char) ∷ (8, bases.Byte) ∷ (9, bases.Short) ∷ (10, bases.Int) ∷ (11, bases.Long) ∷ [])
 
 -- an array of this kind, from so many counts
 abbrev pub made_of_counts : MethodInfo → ℕ → Kind → TypeFrame → Checked

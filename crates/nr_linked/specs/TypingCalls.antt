@@ -18,7 +18,8 @@ use Rattle.nr_linked.specs.declared.typing.fault.Wanted.TheVariants as wanted
 use Rattle.nr_linked.specs.Kinds.{class_kind, class_in, is_array, is_reference}
 use Rattle.nr_linked.specs.Programs.{method_at, super_of}
 use Rattle.nr_linked.specs.Sites.{site_at}
-use Rattle.nr_linked.specs.TypingFrames.{TypeFrame, of_kind, is_initialiser, is_int, is_long}
+use Rattle.nr_linked.specs.TypingFrames.{TypeFrame, of_kind, is_int, is_long}
+use Rattle.nr_linked.specs.Initialisers.{is_initialiser}
 use Rattle.nr_linked.specs.TypingChecks.{Checked, NoRule, need, take_for, take_that, take_kinds, leaves, leaves_operands}
 
 -- ---- arguments and results

@@ -1,11 +1,10 @@
 -- What typing takes of a linked program: facts of its tables, beside those that say how they are laid out.
-use Rattle.std.specs.Prelude.{◌≡◌, ℕ, ◌≤◌, List, [], ◌∷◌, length, Bool, true, false, not, ◌&&◌, ◌||◌, ◌==◌, Option, Some, None, slice_get, IsTrue, Contains, is_none, if◌then◌else◌, codes}
+use Rattle.std.specs.Prelude.{◌≡◌, ℕ, ◌≤◌, List, [], ◌∷◌, length, Bool, true, false, not, ◌&&◌, ◌==◌, Some, None, slice_get, IsTrue, Contains}
 use Rattle.std.specs.Option.{option_map_or}
 use Rattle.nr_optable.specs.declared.table.Family.{Family}
 use Rattle.nr_optable.specs.declared.table.Family.TheVariants.{F8, F32, F33}
 use Rattle.nr_optable.specs.declared.table.Letter.{Letter}
 use Rattle.nr_optable.specs.declared.table.Letter.TheVariants as letters
-use Rattle.nr_optable.specs.declared.table.Row.{Row}
 use Rattle.nr_optable.specs.declared.table.Shape.{Shape}
 use Rattle.nr_optable.specs.declared.table.Shape.TheVariants as shapes
 use Rattle.nr_optable.specs.Rows.{all_rows}
@@ -14,7 +13,6 @@ use Rattle.nr_prog.specs.declared.body.instruction.Args.TheVariants as args
 use Rattle.nr_prog.specs.declared.body.whole.Body.{Body}
 use Rattle.nr_linked.specs.declared.program.built_in.BuiltIn.{BuiltIn}
 use Rattle.nr_linked.specs.declared.program.built_in.BuiltIn.TheVariants as built_ins
-use Rattle.nr_linked.specs.declared.program.kind.Base.TheVariants as bases
 use Rattle.nr_linked.specs.declared.program.kind.Kind.{Kind}
 use Rattle.nr_linked.specs.declared.program.tables.MethodInfo.{MethodInfo}
 use Rattle.nr_linked.specs.declared.program.tables.ProgramTables.{ProgramTables}
@@ -22,14 +20,14 @@ use Rattle.nr_linked.specs.declared.program.tables.Resolved.{Resolved}
 use Rattle.nr_linked.specs.declared.program.tables.Resolved.TheVariants as resolved
 use Rattle.nr_linked.specs.declared.program.tables.SlotInfo.{SlotInfo}
 use Rattle.nr_prog.specs.Members.{is_abstract, is_static}
-use Rattle.nr_linked.specs.Kinds.{class_kind, class_in, is_array}
-use Rattle.nr_linked.specs.BuiltIns.{BuiltInMethod, built_in, built_in_class, built_in_count}
+use Rattle.nr_linked.specs.Kinds.{class_kind}
+use Rattle.nr_linked.specs.BuiltIns.{BuiltInMethod, built_in, built_in_class}
 use Rattle.nr_linked.specs.Programs.{class_at, method_at, is_interface, super_of}
 use Rattle.nr_linked.specs.Slots.{slots_of}
-use Rattle.nr_linked.specs.Selection.{is_called, is_private, selected}
+use Rattle.nr_linked.specs.Selection.{is_private, selected}
 use Rattle.nr_linked.specs.Sites.{Site, site_at}
 use Rattle.nr_linked.specs.Subtypes.{is_above, admits_any, is_assignable}
-use Rattle.nr_linked.specs.TypingFrames.{is_initialiser}
+use Rattle.nr_linked.specs.Initialisers.{is_initialiser}
 use Rattle.nr_linked.specs.TypingChecks.{letters_of}
 
 -- ---- instructions

@@ -14,7 +14,8 @@ use Rattle.nr_linked.specs.Sites.{Site, first_offset}
 use Rattle.nr_linked.specs.TypingFrames.{TypeFrame, frame_fits, places_of, entry_frame}
 use Rattle.nr_linked.specs.TypingChecks.{Checked, Leaves, Refused, NoRule}
 use Rattle.nr_linked.specs.TypingRules.{type_op}
-use Rattle.nr_linked.specs.WellTyped.{map_at, targets_of, falls_through, covers, is_catchable, catchers, handler_frame}
+use Rattle.nr_linked.specs.WellTyped.{map_at, targets_of, falls_through, is_catchable, catchers, handler_frame}
+use Rattle.nr_linked.specs.Handlers.{covers}
 
 pub data MethodFault : Type 0 where
   -- the rule of the instruction at the offset

@@ -1,7 +1,6 @@
 -- Types of local variables and operands, and frames of them: JVM Specification 4.10.1.2 to 4.10.1.4, without float and
 -- double.
-use Rattle.std.specs.Prelude.{ℕ, zero, suc, ◌+◌, List, [], ◌∷◌, reverse, Bool, true, false, not, ◌&&◌, ◌||◌, ◌==◌, if◌then◌else◌, codes}
-use Rattle.std.specs.Str.{bytes_eq}
+use Rattle.std.specs.Prelude.{ℕ, zero, suc, ◌+◌, List, [], ◌∷◌, reverse, Bool, true, false, not, ◌&&◌, ◌||◌, ◌==◌, if◌then◌else◌}
 use Rattle.nr_linked.specs.declared.program.kind.Base.{Base}
 use Rattle.nr_linked.specs.declared.program.kind.Base.TheVariants as bases
 use Rattle.nr_linked.specs.declared.program.kind.Kind.{Kind}
@@ -12,6 +11,7 @@ use Rattle.nr_linked.specs.declared.program.types.VFrame.{VFrame}
 use Rattle.nr_linked.specs.declared.program.types.VType.{VType}
 use Rattle.nr_linked.specs.declared.program.types.VType.TheVariants.{Top, Int, Long, Null, UninitThis, Uninit, Class}
 use Rattle.nr_prog.specs.Members.{is_static}
+use Rattle.nr_linked.specs.Initialisers.{is_initialiser}
 use Rattle.nr_linked.specs.Kinds.{class_kind, is_reference}
 use Rattle.nr_linked.specs.BuiltIns.{built_in}
 use Rattle.nr_linked.specs.Subtypes.{is_assignable}
@@ -123,10 +123,6 @@ padded (suc n) [] = Top ∷ padded n []
 padded (suc n) (t ∷ ts) = t ∷ padded n ts
 
 -- ---- the frame at a method's entry (4.10.1.6: methodInitialStackFrame)
-
--- the method is an instance initialiser (2.9.1)
-abbrev pub is_initialiser : MethodInfo → Bool
-is_initialiser m = bytes_eq m.name (codes "<init>")
 
 -- `this` comes uninitialised: in an initialiser of a class other than java/lang/Object
 abbrev pub comes_uninit : ProgramTables → MethodInfo → Bool

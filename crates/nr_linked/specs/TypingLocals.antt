@@ -1,6 +1,6 @@
 -- The typing rules of loads, stores and increments of local variables (JVM Specification 4.10.1.7 and 4.10.1.9: iload to
 -- aload, istore to astore, iinc, wide).
-use Rattle.std.specs.Prelude.{ℕ, zero, suc, ◌+◌, ◌-◌, List, [], ◌∷◌, Bool, nat_lt, Option, Some, None, ◌==◌, if◌then◌else◌}
+use Rattle.std.specs.Prelude.{ℕ, zero, suc, List, [], ◌∷◌, Bool, nat_lt, Option, Some, None, ◌==◌, if◌then◌else◌}
 use Rattle.nr_optable.specs.declared.table.Letter.{Letter}
 use Rattle.nr_optable.specs.declared.table.Letter.TheVariants as letters
 use Rattle.nr_prog.specs.declared.body.instruction.Args.{Args}
@@ -11,26 +11,6 @@ use Rattle.nr_linked.specs.declared.program.types.VType.TheVariants.{Top, Long}
 use Rattle.nr_linked.specs.declared.typing.fault.OpFault.TheVariants.{NeedsKind, LocalRange}
 use Rattle.nr_linked.specs.TypingFrames.{TypeFrame}
 use Rattle.nr_linked.specs.TypingChecks.{Checked, NoRule, need, is_letter, wanted_letter, take_letter, leaves}
-
--- ---- the number of the local variable
-
--- the first code of the group with the number in the code: iload_0, lload_0, aload_0
-abbrev pub load_group : Letter → ℕ
-load_group letters.I = 26
-load_group letters.J = 30
-load_group letter = 42
-
--- istore_0, lstore_0, astore_0
-abbrev pub store_group : Letter → ℕ
-store_group letters.I = 59
-store_group letters.J = 63
-store_group letter = 75
-
--- the operand, or what the code says
-abbrev pub numbered : ℕ → ℕ → Args → Option ℕ
-numbered group code (args.Local i) = Some i
-numbered group code args.Empty = Some (code - group)
-numbered group code a = None
 
 -- ---- its type
 

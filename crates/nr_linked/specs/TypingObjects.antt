@@ -14,7 +14,8 @@ use Rattle.nr_linked.specs.declared.typing.fault.Wanted.TheVariants as wanted
 use Rattle.nr_linked.specs.Kinds.{class_kind}
 use Rattle.nr_linked.specs.Slots.{slots_of}
 use Rattle.nr_linked.specs.BuiltIns.{built_in}
-use Rattle.nr_linked.specs.TypingFrames.{TypeFrame, of_kind, is_initialiser, is_operand_assignable}
+use Rattle.nr_linked.specs.TypingFrames.{TypeFrame, of_kind, is_operand_assignable}
+use Rattle.nr_linked.specs.Initialisers.{is_initialiser}
 use Rattle.nr_linked.specs.TypingChecks.{Checked, NoRule, need, take_for, take_that, take_reference, leaves, leaves_operands}
 
 -- ---- fields

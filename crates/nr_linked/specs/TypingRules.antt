@@ -10,7 +10,8 @@ use Rattle.nr_linked.specs.declared.program.tables.ProgramTables.{ProgramTables}
 use Rattle.nr_linked.specs.Sites.{Site}
 use Rattle.nr_linked.specs.TypingFrames.{TypeFrame}
 use Rattle.nr_linked.specs.TypingChecks.{Checked, NoRule, letters_of, take_letters, with_letters, leaves_operands}
-use Rattle.nr_linked.specs.TypingLocals.{load_group, store_group, numbered, with_number, with_letter, load_rule, store_rule, increment_rule, wide_rule}
+use Rattle.nr_linked.specs.LocalNumbers.{first_load, first_store, local_of}
+use Rattle.nr_linked.specs.TypingLocals.{with_number, with_letter, load_rule, store_rule, increment_rule, wide_rule}
 use Rattle.nr_linked.specs.TypingMoves.{drop_rule, dup_rule, dup_x1_rule, dup_x2_rule, dup2_rule, dup2_x1_rule, dup2_x2_rule, swap_rule}
 use Rattle.nr_linked.specs.TypingArrays.{array_load_rule, array_store_rule, length_rule, new_array_rule}
 use Rattle.nr_linked.specs.TypingObjects.{get_field_rule, put_field_rule, new_rule, test_rule, throw_rule}
@@ -23,11 +24,11 @@ row_rule m row f = take_letters (letters_of row.pops) 0 f.operands (λ ts.
 
 abbrev pub numbered_load : MethodInfo → Row → Args → TypeFrame → Checked
 numbered_load m row a f = with_letter (letters_of row.pushes) (λ letter.
-    with_number (numbered (load_group letter) row.code a) (λ i. load_rule m letter i f))
+    with_number (local_of (first_load letter) row.code a) (λ i. load_rule m letter i f))
 
 abbrev pub numbered_store : MethodInfo → Row → Args → TypeFrame → Checked
 numbered_store m row a f = with_letter (letters_of row.pops) (λ letter.
-    with_number (numbered (store_group letter) row.code a) (λ i. store_rule m letter i f))
+    with_number (local_of (first_store letter) row.code a) (λ i. store_rule m letter i f))
 
 abbrev pub iinc_rule : MethodInfo → Args → TypeFrame → Checked
 iinc_rule m (args.Inc i by) f = increment_rule m i f

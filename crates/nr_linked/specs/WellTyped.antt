@@ -1,6 +1,6 @@
 -- Well-typed methods and programs (JVM Specification 4.10.1.1 to 4.10.1.6), with all frames at hand: each instruction has
 -- one frame, also one that is never reached.
-use Rattle.std.specs.Prelude.{◌≡◌, ℕ, ◌≤◌, List, [], ◌∷◌, length, Bool, true, false, ◌&&◌, ◌==◌, nat_le, nat_lt, Option, Some, None, find, IsTrue, IsSome, IsSomeAnd, Contains, if◌then◌else◌}
+use Rattle.std.specs.Prelude.{◌≡◌, ℕ, ◌≤◌, List, [], ◌∷◌, length, Bool, true, false, ◌==◌, Option, Some, None, find, IsTrue, IsSome, IsSomeAnd, Contains, if◌then◌else◌}
 use Rattle.std.specs.Option.{option_map, option_map_or}
 use Rattle.nr_optable.specs.declared.table.Family.{Family}
 use Rattle.nr_optable.specs.declared.table.Family.TheVariants.{F6, F28, F29, F36}
@@ -16,6 +16,7 @@ use Rattle.nr_linked.specs.declared.program.tables.ProgramTables.{ProgramTables}
 use Rattle.nr_linked.specs.declared.program.types.VFrame.{VFrame}
 use Rattle.nr_linked.specs.declared.program.types.VType.{VType}
 use Rattle.nr_linked.specs.declared.program.types.VType.TheVariants.{Class}
+use Rattle.nr_linked.specs.Handlers.{covers}
 use Rattle.nr_linked.specs.Kinds.{class_kind}
 use Rattle.nr_linked.specs.Subtypes.{is_assignable}
 use Rattle.nr_linked.specs.BuiltIns.{built_in}
@@ -88,10 +89,6 @@ Onward P m fs true next f = IsSomeAnd next (ComesTo P m fs f)
 Onward P m fs false next f = Begins m next
 
 -- ---- exception handlers (4.10.1.6: instructionSatisfiesHandlers)
-
--- the range of the handler holds the offset
-abbrev pub covers : Handler → ℕ → Bool
-covers h at = nat_le h.start at && nat_lt at h.end
 
 -- the type of what the handler catches
 abbrev pub caught_type : ProgramTables → Option Kind → VType

@@ -16,7 +16,8 @@ use Rattle.nr_linked.specs.Sites.{Site}
 use Rattle.nr_linked.specs.Subtypes.{is_assignable, is_sub}
 use Rattle.nr_linked.specs.TypingFrames.{TypeFrame, is_initialised, is_long}
 use Rattle.nr_linked.specs.TypingChecks.{Leaves, take_int, take_ints, take_that, take_reference, leaves_operands}
-use Rattle.nr_linked.specs.TypingArrays.{Elements, Of, References, is_base, is_element, is_array_with, wanted_array, take_array, loaded_type, is_any_array, length_rule, made_of_counts}
+use Rattle.nr_linked.specs.TypingArrays.{is_array_with, wanted_array, take_array, loaded_type, is_any_array, length_rule, made_of_counts}
+use Rattle.nr_linked.specs.ArrayKinds.{Elements, Of, References, is_base, is_element}
 use Rattle.nr_linked.specs.TypingFacts.{TypingFacts}
 use Rattle.nr_heap.specs.declared.value.Value.TheVariants.{Int, Long}
 use Rattle.nr_heap.specs.Heaps.{Heap}
@@ -63,38 +64,38 @@ module _ (P : ProgramTables) (facts : TypingFacts P) (own : MethodInfo) (F G : T
     index_fits (pos j) n k L us f = if_fits P facts own F G h0 Q (nat_lt j n) (k j) (throw_new P built_ins.ArrayIndexOutOfBoundsException) L us (λ p. f j (ltb_yes p)) (λ p. throws P facts own F G h0 Q s owed built_ins.ArrayIndexOutOfBoundsException refl L us)
     index_fits (negsuc j) n k L us f = throws P facts own F G h0 Q s owed built_ins.ArrayIndexOutOfBoundsException refl L us
 
-    checked_fits : (e : Elements) (test : Kind → Bool) → ((x : Kind) → T (is_element e x) → T (test x)) → (a r : Kind) (n : ℕ) (i : ℤ) (k : Kind → ℕ → Script) (L us : List Ty)
-        → T (is_array_with e (types.Class a)) → T (is_assignable P r a) → ((x : Kind) → ElementFacts P facts e a r x → (j : ℕ) → j < n → Fits P h0 Q (k x j) L us) → Fits P h0 Q (checked test r n i k) L us
-    checked_fits e test agrees a r n i k L us p q f =
+    checked_fits : (e : Elements) (a r : Kind) (n : ℕ) (i : ℤ) (k : Kind → ℕ → Script) (L us : List Ty)
+        → T (is_array_with e (types.Class a)) → T (is_assignable P r a) → ((x : Kind) → ElementFacts P facts e a r x → (j : ℕ) → j < n → Fits P h0 Q (k x j) L us) → Fits P h0 Q (checked (is_element e) r n i k) L us
+    checked_fits e a r n i k L us p q f =
         let x = elements P facts e a r p q in
-        subst (λ o. Fits P h0 Q (with_found o (λ x. which (test x) (at_index P n i (k x)))) L us) (sym x.1.is_element_of)
-        (which_fits P facts own F G h0 Q (test x.0) (at_index P n i (k x.0)) L us (agrees x.0 x.1.passes) (index_fits i n (k x.0) L us (λ j l. f x.0 x.1 j l)))
+        subst (λ o. Fits P h0 Q (with_found o (λ x. which (is_element e x) (at_index P n i (k x)))) L us) (sym x.1.is_element_of)
+        (which_fits P facts own F G h0 Q (is_element e x.0) (at_index P n i (k x.0)) L us x.1.passes (index_fits i n (k x.0) L us (λ j l. f x.0 x.1 j l)))
 
     -- an array at depth 0, of which the elements are used
-    array_fits : (e : Elements) (test : Kind → Bool) → ((x : Kind) → T (is_element e x) → T (test x)) → (t : VType) (i : ℤ) (k : Kind → ℕ → Script) (us : List VType)
+    array_fits : (e : Elements) (t : VType) (i : ℤ) (k : Kind → ℕ → Script) (us : List VType)
         → T (is_array_with e t) → ((a r x : Kind) (n : ℕ) → T (is_array_with e (types.Class a)) → t ≡ types.Class a → ElementFacts P facts e a r x → (j : ℕ) → j < n → Fits P h0 Q (k x j) LT (Exact r n ∷ operand_tys own us))
-        → Fits P h0 Q (not_null P 0 (AskKind 0 (λ kind n. checked test kind n i k))) LT (ty_of Word own t ∷ operand_tys own us)
-    array_fits e test agrees types.Null i k us p f = null_throw P facts own F G h0 Q s owed _ _
-    array_fits e test agrees (types.Class a) i k us p f = (
+        → Fits P h0 Q (not_null P 0 (AskKind 0 (λ kind n. checked (is_element e) kind n i k))) LT (ty_of Word own t ∷ operand_tys own us)
+    array_fits e types.Null i k us p f = null_throw P facts own F G h0 Q s owed _ _
+    array_fits e (types.Class a) i k us p f = (
       null_throw P facts own F G h0 Q s owed _ _,
       λ r n q z.
-          checked_fits e test agrees a r n i k LT (Exact r n ∷ operand_tys own us) p q (λ x y j l. f a r x n p refl y j l),
+          checked_fits e a r n i k LT (Exact r n ∷ operand_tys own us) p q (λ x y j l. f a r x n p refl y j l),
     )
-    array_fits e test agrees types.Top i k us p f = absurd p
-    array_fits e test agrees types.Int i k us p f = absurd p
-    array_fits e test agrees types.Long i k us p f = absurd p
-    array_fits e test agrees types.UninitThis i k us p f = absurd p
-    array_fits e test agrees (types.Uninit m) i k us p f = absurd p
+    array_fits e types.Top i k us p f = absurd p
+    array_fits e types.Int i k us p f = absurd p
+    array_fits e types.Long i k us p f = absurd p
+    array_fits e types.UninitThis i k us p f = absurd p
+    array_fits e (types.Uninit m) i k us p f = absurd p
 
     -- iaload and so on
-    pub array_loads : (e : Elements) (test : Kind → Bool) → ((x : Kind) → T (is_element e x) → T (test x)) → (k : Script) → On k
+    pub array_loads : (e : Elements) (k : Script) → On k
         → take_int 0 F.operands (λ ts. take_array P e 1 ts (λ a us. leaves_operands own F (loaded_type e a ∷ us))) ≡ Leaves G
-        → Fit (PopInt (λ i. not_null P 0 (AskKind 0 (λ kind n. checked test kind n i (λ x j. ReadSlot j k)))))
-    array_loads e test agrees k g q =
+        → Fit (PopInt (λ i. not_null P 0 (AskKind 0 (λ kind n. checked (is_element e) kind n i (λ x j. ReadSlot j k)))))
+    array_loads e k g q =
         let r = inv_int G 0 F.operands (λ ts. take_array P e 1 ts (λ a us. leaves_operands own F (loaded_type e a ∷ us))) q in
         let b = inv_that G (is_array_with e) (wanted_array P e) 1 r.0 (λ a us. leaves_operands own F (loaded_type e a ∷ us)) r.2 in
-        over P facts own F G h0 Q (PopInt (λ i. not_null P 0 (AskKind 0 (λ kind n. checked test kind n i (λ x j. ReadSlot j k))))) F.operands (types.Int ∷ b.0 ∷ b.1) (r.1 ∙ ap (λ ts. types.Int ∷ ts) b.2)
-        (λ i. array_fits e test agrees b.0 i (λ x j. ReadSlot j k) b.1 b.3 (λ a r x n p is y j l. (
+        over P facts own F G h0 Q (PopInt (λ i. not_null P 0 (AskKind 0 (λ kind n. checked (is_element e) kind n i (λ x j. ReadSlot j k))))) F.operands (types.Int ∷ b.0 ∷ b.1) (r.1 ∙ ap (λ ts. types.Int ∷ ts) b.2)
+        (λ i. array_fits e b.0 i (λ x j. ReadSlot j k) b.1 b.3 (λ a r x n p is y j l. (
           l,
           go_top P facts own F G h0 Q k g (loaded_type e b.0) b.1 b.4 (slot_ty P r j)
               (λ h v z. subst (λ t. Belongs P h (ty_of Word own (loaded_type e t)) v) (sym is) (loaded_ok P facts own e a r x p y h v (subst (λ t. Belongs P h t v) (y.slot j) z))),
@@ -106,29 +107,29 @@ module _ (P : ProgramTables) (facts : TypingFacts P) (own : MethodInfo) (F G : T
     writes k g us q u r x n j l up e = (l, (λ h v a. subst (λ t. Belongs P h t v) (sym e) (up h v a)), go_same P facts own F G h0 Q k g us q)
 
     -- iastore, bastore, castore, sastore
-    pub int_stores : (e : Elements) (test : Kind → Bool) → ((x : Kind) → T (is_element e x) → T (test x)) → ((x : Kind) → T (is_element e x) → (h : Heap) (v : ℤ) → Belongs P h (kept_ty x) (Int (narrowed x.base v)))
+    pub int_stores : (e : Elements) → ((x : Kind) → T (is_element e x) → (h : Heap) (v : ℤ) → Belongs P h (kept_ty x) (Int (narrowed x.base v)))
         → (k : Script) → On k → take_int 0 F.operands (λ ts. take_int 1 ts (λ us. take_array P e 2 us (λ a vs. leaves_operands own F vs))) ≡ Leaves G
-        → Fit (PopInt (λ v. PopInt (λ i. not_null P 0 (AskKind 0 (λ kind n. checked test kind n i (λ x j. Push (PlainInt (narrowed x.base v)) (WriteSlot j k)))))))
-    int_stores e test agrees kept k g q =
+        → Fit (PopInt (λ v. PopInt (λ i. not_null P 0 (AskKind 0 (λ kind n. checked (is_element e) kind n i (λ x j. Push (PlainInt (narrowed x.base v)) (WriteSlot j k)))))))
+    int_stores e kept k g q =
         let r = inv_int G 0 F.operands (λ ts. take_int 1 ts (λ us. take_array P e 2 us (λ a vs. leaves_operands own F vs))) q in
         let c = inv_int G 1 r.0 (λ us. take_array P e 2 us (λ a vs. leaves_operands own F vs)) r.2 in
         let b = inv_that G (is_array_with e) (wanted_array P e) 2 c.0 (λ a us. leaves_operands own F us) c.2 in
-        over P facts own F G h0 Q (PopInt (λ v. PopInt (λ i. not_null P 0 (AskKind 0 (λ kind n. checked test kind n i (λ x j. Push (PlainInt (narrowed x.base v)) (WriteSlot j k))))))) F.operands (types.Int ∷ types.Int ∷ b.0 ∷ b.1)
+        over P facts own F G h0 Q (PopInt (λ v. PopInt (λ i. not_null P 0 (AskKind 0 (λ kind n. checked (is_element e) kind n i (λ x j. Push (PlainInt (narrowed x.base v)) (WriteSlot j k))))))) F.operands (types.Int ∷ types.Int ∷ b.0 ∷ b.1)
         (r.1 ∙ ap (λ ts. types.Int ∷ ts) (c.1 ∙ ap (λ ts. types.Int ∷ ts) b.2))
-        (λ v i. array_fits e test agrees b.0 i (λ x j. Push (PlainInt (narrowed x.base v)) (WriteSlot j k)) b.1 b.3 (λ a r x n p is y j l.
+        (λ v i. array_fits e b.0 i (λ x j. Push (PlainInt (narrowed x.base v)) (WriteSlot j k)) b.1 b.3 (λ a r x n p is y j l.
         (kept_ty x, (λ h. kept x y.passes h v), writes k g b.1 b.4 (kept_ty x) r x n j l (λ h v a. a) (y.slot j))))
 
     -- lastore
-    pub long_stores : (test : Kind → Bool) → ((x : Kind) → T (is_element (Of bases.Long) x) → T (test x)) → (k : Script) → On k
+    pub long_stores : (k : Script) → On k
         → take_that is_long (wanted.Type types.Long) 0 F.operands (λ t ts. take_int 1 ts (λ us. take_array P (Of bases.Long) 2 us (λ a vs. leaves_operands own F vs))) ≡ Leaves G
-        → Fit (PopLong (λ v. PopInt (λ i. not_null P 0 (AskKind 0 (λ kind n. checked test kind n i (λ x j. Push (PlainLong v) (WriteSlot j k)))))))
-    long_stores test agrees k g q =
+        → Fit (PopLong (λ v. PopInt (λ i. not_null P 0 (AskKind 0 (λ kind n. checked (is_element (Of bases.Long)) kind n i (λ x j. Push (PlainLong v) (WriteSlot j k)))))))
+    long_stores k g q =
         let r = inv_that G is_long (wanted.Type types.Long) 0 F.operands (λ t ts. take_int 1 ts (λ us. take_array P (Of bases.Long) 2 us (λ a vs. leaves_operands own F vs))) q in
         let c = inv_int G 1 r.1 (λ us. take_array P (Of bases.Long) 2 us (λ a vs. leaves_operands own F vs)) r.4 in
         let b = inv_that G (is_array_with (Of bases.Long)) (wanted_array P (Of bases.Long)) 2 c.0 (λ a us. leaves_operands own F us) c.2 in
-        over P facts own F G h0 Q (PopLong (λ v. PopInt (λ i. not_null P 0 (AskKind 0 (λ kind n. checked test kind n i (λ x j. Push (PlainLong v) (WriteSlot j k))))))) F.operands (types.Long ∷ types.Int ∷ b.0 ∷ b.1)
+        over P facts own F G h0 Q (PopLong (λ v. PopInt (λ i. not_null P 0 (AskKind 0 (λ kind n. checked (is_element (Of bases.Long)) kind n i (λ x j. Push (PlainLong v) (WriteSlot j k))))))) F.operands (types.Long ∷ types.Int ∷ b.0 ∷ b.1)
         (r.2 ∙ (ap (λ t. t ∷ r.1) (long_is r.0 r.3) ∙ ap (λ ts. types.Long ∷ ts) (c.1 ∙ ap (λ ts. types.Int ∷ ts) b.2)))
-        (λ v i. array_fits (Of bases.Long) test agrees b.0 i (λ x j. Push (PlainLong v) (WriteSlot j k)) b.1 b.3 (λ a r x n p is y j l.
+        (λ v i. array_fits (Of bases.Long) b.0 i (λ x j. Push (PlainLong v) (WriteSlot j k)) b.1 b.3 (λ a r x n p is y j l.
         (kept_ty x, (λ h. long_kept x y.passes h v), writes k g b.1 b.4 (kept_ty x) r x n j l (λ h v a. a) (y.slot j))))
       where
         long_kept : (x : Kind) → T (is_base bases.Long x) → (h : Heap) (v : ℤ) → Belongs P h (kept_ty x) (Long v)
@@ -150,22 +151,22 @@ module _ (P : ProgramTables) (facts : TypingFacts P) (own : MethodInfo) (F G : T
     stored k g us q types.UninitThis p a r x n j y l = absurd p
     stored k g us q (types.Uninit m) p a r x n j y l = absurd p
 
-    into_array : (k : Script) → On k → (us : List VType) → leaves_operands own F us ≡ Leaves G → (test : Kind → Bool) → ((x : Kind) → T (is_element References x) → T (test x)) → (i : ℤ) (t u : VType) → T (is_initialised t) → T (is_array_with References u)
-        → Fits P h0 Q (not_null P 2 (AskKind 2 (λ kind n. checked test kind n i (λ x j. storable P x (Drop 1 (WriteSlot j k)))))) LT (ty_of Word own t ∷ AnInt ∷ ty_of Word own u ∷ operand_tys own us)
-    into_array k g us q test agrees i t u p r = on_array References u _ (λ y. Fits P h0 Q (AskKind 2 (λ kind n. checked test kind n i (λ x j. storable P x (Drop 1 (WriteSlot j k))))) LT (ty_of Word own t ∷ AnInt ∷ y ∷ operand_tys own us)) r
+    into_array : (k : Script) → On k → (us : List VType) → leaves_operands own F us ≡ Leaves G → (i : ℤ) (t u : VType) → T (is_initialised t) → T (is_array_with References u)
+        → Fits P h0 Q (not_null P 2 (AskKind 2 (λ kind n. checked (is_element References) kind n i (λ x j. storable P x (Drop 1 (WriteSlot j k)))))) LT (ty_of Word own t ∷ AnInt ∷ ty_of Word own u ∷ operand_tys own us)
+    into_array k g us q i t u p r = on_array References u _ (λ y. Fits P h0 Q (AskKind 2 (λ kind n. checked (is_element References) kind n i (λ x j. storable P x (Drop 1 (WriteSlot j k))))) LT (ty_of Word own t ∷ AnInt ∷ y ∷ operand_tys own us)) r
         (null_throw P facts own F G h0 Q s owed _ _) (λ a d f n b z.
-        checked_fits References test agrees a f n i (λ x j. storable P x (Drop 1 (WriteSlot j k))) LT (ty_of Word own t ∷ AnInt ∷ Exact f n ∷ operand_tys own us) d b (λ x y j l. stored k g us q t p a f x n j y l))
+        checked_fits References a f n i (λ x j. storable P x (Drop 1 (WriteSlot j k))) LT (ty_of Word own t ∷ AnInt ∷ Exact f n ∷ operand_tys own us) d b (λ x y j l. stored k g us q t p a f x n j y l))
 
-    pub reference_stores : (test : Kind → Bool) → ((x : Kind) → T (is_element References x) → T (test x)) → (k : Script) → On k
+    pub reference_stores : (k : Script) → On k
         → take_reference 0 F.operands (λ t ts. take_int 1 ts (λ us. take_array P References 2 us (λ a vs. leaves_operands own F vs))) ≡ Leaves G
-        → Fit (Pick 1 (PopInt (λ i. not_null P 2 (AskKind 2 (λ kind n. checked test kind n i (λ x j. storable P x (Drop 1 (WriteSlot j k))))))))
-    reference_stores test agrees k g q =
+        → Fit (Pick 1 (PopInt (λ i. not_null P 2 (AskKind 2 (λ kind n. checked (is_element References) kind n i (λ x j. storable P x (Drop 1 (WriteSlot j k))))))))
+    reference_stores k g q =
         let r = inv_that G is_initialised wanted.AnyReference 0 F.operands (λ t ts. take_int 1 ts (λ us. take_array P References 2 us (λ a vs. leaves_operands own F vs))) q in
         let c = inv_int G 1 r.1 (λ us. take_array P References 2 us (λ a vs. leaves_operands own F vs)) r.4 in
         let b = inv_that G (is_array_with References) (wanted_array P References) 2 c.0 (λ a us. leaves_operands own F us) c.2 in
-        over P facts own F G h0 Q (Pick 1 (PopInt (λ i. not_null P 2 (AskKind 2 (λ kind n. checked test kind n i (λ x j. storable P x (Drop 1 (WriteSlot j k)))))))) F.operands (r.0 ∷ types.Int ∷ b.0 ∷ b.1)
+        over P facts own F G h0 Q (Pick 1 (PopInt (λ i. not_null P 2 (AskKind 2 (λ kind n. checked (is_element References) kind n i (λ x j. storable P x (Drop 1 (WriteSlot j k)))))))) F.operands (r.0 ∷ types.Int ∷ b.0 ∷ b.1)
         (r.2 ∙ ap (λ ts. r.0 ∷ ts) (c.1 ∙ ap (λ ts. types.Int ∷ ts) b.2))
-        (λ i. into_array k g b.1 b.4 test agrees i r.0 b.0 r.3 b.3)
+        (λ i. into_array k g b.1 b.4 i r.0 b.0 r.3 b.3)
 
     -- ---- lengths
 

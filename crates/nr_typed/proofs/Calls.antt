@@ -22,7 +22,8 @@ use Rattle.nr_linked.specs.Linked.{is_loaded}
 use Rattle.nr_linked.specs.Selection.{is_private, selected}
 use Rattle.nr_linked.specs.Sites.{Site}
 use Rattle.nr_linked.specs.Subtypes.{admits_any, is_assignable, is_above, is_sub}
-use Rattle.nr_linked.specs.TypingFrames.{TypeFrame, of_kinds, operands_fit, is_initialiser}
+use Rattle.nr_linked.specs.TypingFrames.{TypeFrame, of_kinds, operands_fit}
+use Rattle.nr_linked.specs.Initialisers.{is_initialiser}
 use Rattle.nr_linked.specs.TypingChecks.{Checked, Leaves}
 use Rattle.nr_linked.specs.TypingCalls.{take_arguments}
 use Rattle.nr_linked.specs.TypingFacts.{TypingFacts, CallFacts}

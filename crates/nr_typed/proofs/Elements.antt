@@ -15,7 +15,8 @@ use Rattle.nr_linked.specs.Kinds.{class_kind, is_reference, element_of, array_of
 use Rattle.nr_linked.specs.Slots.{slots_of}
 use Rattle.nr_linked.specs.Subtypes.{by_components, is_above, is_sub, is_base_assignable, admits_arrays, is_assignable}
 use Rattle.nr_linked.specs.TypingFrames.{of_base}
-use Rattle.nr_linked.specs.TypingArrays.{Elements, Of, Bytes, References, is_base, is_element, is_array_with, loaded_type}
+use Rattle.nr_linked.specs.TypingArrays.{is_array_with, loaded_type}
+use Rattle.nr_linked.specs.ArrayKinds.{Elements, Of, Bytes, References, is_base, is_element}
 use Rattle.nr_linked.specs.TypingFacts.{TypingFacts}
 use Rattle.nr_heap.specs.declared.value.Value.TheVariants.{Int}
 use Rattle.nr_heap.specs.Heaps.{Heap, on_some}

@@ -19,7 +19,7 @@ use Rattle.nr_linked.specs.Programs.{method_at}
 use Rattle.nr_linked.specs.Selection.{is_private}
 use Rattle.nr_linked.specs.Sites.{Site, first_offset, site_among, site_at}
 use Rattle.nr_linked.specs.Subtypes.{is_above, admits_any, is_assignable}
-use Rattle.nr_linked.specs.TypingFrames.{is_initialiser}
+use Rattle.nr_linked.specs.Initialisers.{is_initialiser}
 use Rattle.nr_linked.specs.TypingChecks.{letters_of}
 use Rattle.nr_linked.specs.TypingFacts.{is_shaped, has_constant, is_makeable, CallFacts, SiteFacts, TypingFacts}
 use Rattle.nr_typed.proofs.Assigning.{yes, holds}

@@ -20,7 +20,7 @@ use Rattle.nr_linked.specs.BuiltInTables.{built_in_infos, built_in_methods, buil
 use Rattle.nr_linked.specs.Programs.{class_at, method_at, methods_of, super_of, upward}
 use Rattle.nr_linked.specs.Selection.{first_selected, is_private, is_selectable, selected, with_body}
 use Rattle.nr_linked.specs.Subtypes.{is_above}
-use Rattle.nr_linked.specs.TypingFrames.{is_initialiser}
+use Rattle.nr_linked.specs.Initialisers.{is_initialiser}
 use Rattle.nr_linked.specs.TypingFacts.{is_makeable, is_thrown, Selected, BuiltInFacts}
 use Rattle.nr_typed.proofs.Assigning.{yes, holds, and_both}
 use Rattle.nr_typed.specs.Example.{int_kind, example}

@@ -18,7 +18,8 @@ use Rattle.nr_linked.specs.Programs.{method_at, super_of}
 use Rattle.nr_linked.specs.Selection.{is_private, is_called}
 use Rattle.nr_linked.specs.Sites.{Site, site_at}
 use Rattle.nr_linked.specs.Subtypes.{is_assignable, is_above}
-use Rattle.nr_linked.specs.TypingFrames.{TypeFrame, is_initialiser}
+use Rattle.nr_linked.specs.TypingFrames.{TypeFrame}
+use Rattle.nr_linked.specs.Initialisers.{is_initialiser}
 use Rattle.nr_linked.specs.TypingChecks.{Leaves, leaves}
 use Rattle.nr_linked.specs.TypingCalls.{class_made, class_made_at, is_init_receiver, initialised_class, after_init}
 use Rattle.nr_linked.specs.TypingFacts.{TypingFacts, CallFacts, SiteFacts}

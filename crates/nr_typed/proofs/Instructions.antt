@@ -1,6 +1,6 @@
 -- Each instruction of the table: where its rule passes, its script fits.
 use Rattle.std.proofs.Common.{◌≡◌, ℕ, zero, suc, List, [], ◌∷◌, refl, subst, not, arith, T}
-use Rattle.std.specs.Prelude.{pos, ◌-ℤ◌, ◌-◌, Option, Some, Contains, ◌||◌}
+use Rattle.std.specs.Prelude.{pos, ◌-ℤ◌, ◌-◌, Option, Some, Contains}
 use Rattle.std.specs.Int.{w8, w16, w32, w64, int_wrap, int_bit_and, int_bit_or, int_bit_xor}
 use Rattle.nr_optable.specs.Arithmetic.{add, subtract, multiply, divide, remainder, negate, shift_left, shift_right, shift_right_unsigned, to_char, compare, is_equal, is_unequal, is_less, is_at_least, is_greater, is_at_most}
 use Rattle.nr_optable.specs.Rows.{all_rows}
@@ -13,20 +13,18 @@ use Rattle.nr_linked.specs.declared.program.tables.MethodInfo.{MethodInfo}
 use Rattle.nr_linked.specs.declared.program.tables.ProgramTables.{ProgramTables}
 use Rattle.nr_linked.specs.declared.program.tables.Resolved.{Resolved}
 use Rattle.nr_linked.specs.declared.program.types.VType.TheVariants as types
-use Rattle.nr_linked.specs.Kinds.{is_reference}
 use Rattle.nr_linked.specs.Programs.{method_at}
 use Rattle.nr_linked.specs.Sites.{Site, site_at}
 use Rattle.nr_linked.specs.Subtypes.{is_above}
 use Rattle.nr_linked.specs.TypingFrames.{TypeFrame}
 use Rattle.nr_linked.specs.TypingChecks.{Leaves}
-use Rattle.nr_linked.specs.TypingArrays.{Of, Bytes, References}
+use Rattle.nr_linked.specs.ArrayKinds.{Of, Bytes, References}
 use Rattle.nr_linked.specs.TypingRules.{type_op}
 use Rattle.nr_linked.specs.TypingFacts.{TypingFacts, SiteFacts}
 use Rattle.nr_heap.specs.Heaps.{Heap}
 use Rattle.nr_heap.specs.Scripts.{PlainInt, PlainLong, PlainNull, GoTo, Within, Ending}
 use Rattle.nr_heap.specs.Throws.{onward}
 use Rattle.nr_heap.specs.ValueRules as values
-use Rattle.nr_heap.specs.ArrayRules.{is_primitive}
 use Rattle.nr_heap.specs.Rules.{script}
 use Rattle.nr_typed.specs.Types.{operand_tys, local_tys}
 use Rattle.nr_typed.specs.Fits.{Fits}
@@ -95,12 +93,12 @@ module _ (P : ProgramTables) (facts : TypingFacts P) (own_number : ℕ) (own : M
       (λ a r at n f o h e. numbered_loads P facts own F G h0 Q letters.R 42 43 a (onward n) (o.next refl) e) ∷∷  -- aload_1
       (λ a r at n f o h e. numbered_loads P facts own F G h0 Q letters.R 42 44 a (onward n) (o.next refl) e) ∷∷  -- aload_2
       (λ a r at n f o h e. numbered_loads P facts own F G h0 Q letters.R 42 45 a (onward n) (o.next refl) e) ∷∷  -- aload_3
-      (λ a r at n f o h e. array_loads P facts own F G h0 Q _ o (Of bases.Int) (is_primitive bases.Int) (λ x p. p) (onward n) (o.next refl) e) ∷∷  -- iaload
-      (λ a r at n f o h e. array_loads P facts own F G h0 Q _ o (Of bases.Long) (is_primitive bases.Long) (λ x p. p) (onward n) (o.next refl) e) ∷∷  -- laload
-      (λ a r at n f o h e. array_loads P facts own F G h0 Q _ o References is_reference (λ x p. p) (onward n) (o.next refl) e) ∷∷  -- aaload
-      (λ a r at n f o h e. array_loads P facts own F G h0 Q _ o Bytes (λ k. is_primitive bases.Byte k || is_primitive bases.Bool k) (λ x p. p) (onward n) (o.next refl) e) ∷∷  -- baload
-      (λ a r at n f o h e. array_loads P facts own F G h0 Q _ o (Of bases.Char) (is_primitive bases.Char) (λ x p. p) (onward n) (o.next refl) e) ∷∷  -- caload
-      (λ a r at n f o h e. array_loads P facts own F G h0 Q _ o (Of bases.Short) (is_primitive bases.Short) (λ x p. p) (onward n) (o.next refl) e) ∷∷  -- saload
+      (λ a r at n f o h e. array_loads P facts own F G h0 Q _ o (Of bases.Int) (onward n) (o.next refl) e) ∷∷  -- iaload
+      (λ a r at n f o h e. array_loads P facts own F G h0 Q _ o (Of bases.Long) (onward n) (o.next refl) e) ∷∷  -- laload
+      (λ a r at n f o h e. array_loads P facts own F G h0 Q _ o References (onward n) (o.next refl) e) ∷∷  -- aaload
+      (λ a r at n f o h e. array_loads P facts own F G h0 Q _ o Bytes (onward n) (o.next refl) e) ∷∷  -- baload
+      (λ a r at n f o h e. array_loads P facts own F G h0 Q _ o (Of bases.Char) (onward n) (o.next refl) e) ∷∷  -- caload
+      (λ a r at n f o h e. array_loads P facts own F G h0 Q _ o (Of bases.Short) (onward n) (o.next refl) e) ∷∷  -- saload
       (λ a r at n f o h e. numbered_stores P facts own F G h0 Q letters.I 59 54 a (onward n) (o.next refl) e) ∷∷  -- istore
       (λ a r at n f o h e. numbered_stores P facts own F G h0 Q letters.J 63 55 a (onward n) (o.next refl) e) ∷∷  -- lstore
       (λ a r at n f o h e. numbered_stores P facts own F G h0 Q letters.R 75 58 a (onward n) (o.next refl) e) ∷∷  -- astore
@@ -116,12 +114,12 @@ module _ (P : ProgramTables) (facts : TypingFacts P) (own_number : ℕ) (own : M
       (λ a r at n f o h e. numbered_stores P facts own F G h0 Q letters.R 75 76 a (onward n) (o.next refl) e) ∷∷  -- astore_1
       (λ a r at n f o h e. numbered_stores P facts own F G h0 Q letters.R 75 77 a (onward n) (o.next refl) e) ∷∷  -- astore_2
       (λ a r at n f o h e. numbered_stores P facts own F G h0 Q letters.R 75 78 a (onward n) (o.next refl) e) ∷∷  -- astore_3
-      (λ a r at n f o h e. int_stores P facts own F G h0 Q _ o (Of bases.Int) (is_primitive bases.Int) (λ x p. p) (λ x p h v. base_kept P facts bases.Int x int_long p h v) (onward n) (o.next refl) e) ∷∷  -- iastore
-      (λ a r at n f o h e. long_stores P facts own F G h0 Q _ o (is_primitive bases.Long) (λ x p. p) (onward n) (o.next refl) e) ∷∷  -- lastore
-      (λ a r at n f o h e. reference_stores P facts own F G h0 Q _ o is_reference (λ x p. p) (onward n) (o.next refl) e) ∷∷  -- aastore
-      (λ a r at n f o h e. int_stores P facts own F G h0 Q _ o Bytes (λ k. is_primitive bases.Byte k || is_primitive bases.Bool k) (λ x p. p) (λ x p h v. bytes_kept P facts x p h v) (onward n) (o.next refl) e) ∷∷  -- bastore
-      (λ a r at n f o h e. int_stores P facts own F G h0 Q _ o (Of bases.Char) (is_primitive bases.Char) (λ x p. p) (λ x p h v. base_kept P facts bases.Char x char_long p h v) (onward n) (o.next refl) e) ∷∷  -- castore
-      (λ a r at n f o h e. int_stores P facts own F G h0 Q _ o (Of bases.Short) (is_primitive bases.Short) (λ x p. p) (λ x p h v. base_kept P facts bases.Short x short_long p h v) (onward n) (o.next refl) e) ∷∷  -- sastore
+      (λ a r at n f o h e. int_stores P facts own F G h0 Q _ o (Of bases.Int) (λ x p h v. base_kept P facts bases.Int x int_long p h v) (onward n) (o.next refl) e) ∷∷  -- iastore
+      (λ a r at n f o h e. long_stores P facts own F G h0 Q _ o (onward n) (o.next refl) e) ∷∷  -- lastore
+      (λ a r at n f o h e. reference_stores P facts own F G h0 Q _ o (onward n) (o.next refl) e) ∷∷  -- aastore
+      (λ a r at n f o h e. int_stores P facts own F G h0 Q _ o Bytes (λ x p h v. bytes_kept P facts x p h v) (onward n) (o.next refl) e) ∷∷  -- bastore
+      (λ a r at n f o h e. int_stores P facts own F G h0 Q _ o (Of bases.Char) (λ x p h v. base_kept P facts bases.Char x char_long p h v) (onward n) (o.next refl) e) ∷∷  -- castore
+      (λ a r at n f o h e. int_stores P facts own F G h0 Q _ o (Of bases.Short) (λ x p h v. base_kept P facts bases.Short x short_long p h v) (onward n) (o.next refl) e) ∷∷  -- sastore
       (λ a r at n f o h e. pop_fits P facts own F G h0 Q (onward n) (o.next refl) e) ∷∷  -- pop
       (λ a r at n f o h e. pop2_fits P facts own F G h0 Q (onward n) (o.next refl) e) ∷∷  -- pop2
       (λ a r at n f o h e. dup_fits P facts own F G h0 Q (onward n) (o.next refl) e) ∷∷  -- dup

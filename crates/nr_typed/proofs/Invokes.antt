@@ -14,7 +14,8 @@ use Rattle.nr_prog.specs.Members.{is_static}
 use Rattle.nr_linked.specs.Programs.{method_at}
 use Rattle.nr_linked.specs.Sites.{Site}
 use Rattle.nr_linked.specs.Subtypes.{is_above}
-use Rattle.nr_linked.specs.TypingFrames.{TypeFrame, is_operand_assignable, is_initialiser}
+use Rattle.nr_linked.specs.TypingFrames.{TypeFrame, is_operand_assignable}
+use Rattle.nr_linked.specs.Initialisers.{is_initialiser}
 use Rattle.nr_linked.specs.TypingChecks.{Checked, Leaves, take_that, take_for, leaves, leaves_operands}
 use Rattle.nr_linked.specs.TypingCalls.{with_result, with_callee, call_on, call_static, call_init, call_rule, is_init_receiver, after_init, invoke_rule}
 use Rattle.nr_linked.specs.TypingFacts.{TypingFacts, CallFacts, SiteFacts}

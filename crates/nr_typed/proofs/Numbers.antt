@@ -15,7 +15,8 @@ use Rattle.nr_linked.specs.declared.typing.fault.OpFault.TheVariants.{NeedsInit}
 use Rattle.nr_linked.specs.declared.typing.fault.Wanted.TheVariants as wanted
 use Rattle.nr_linked.specs.Kinds.{class_kind, is_reference}
 use Rattle.nr_linked.specs.Sites.{Site}
-use Rattle.nr_linked.specs.TypingFrames.{TypeFrame, of_kind, is_int, is_long, is_initialised, is_initialiser, is_operand_assignable}
+use Rattle.nr_linked.specs.TypingFrames.{TypeFrame, of_kind, is_int, is_long, is_initialised, is_operand_assignable}
+use Rattle.nr_linked.specs.Initialisers.{is_initialiser}
 use Rattle.nr_linked.specs.TypingChecks.{Checked, Leaves, need, is_letter, wanted_letter, take_letters, leaves, leaves_operands}
 use Rattle.nr_linked.specs.TypingLocals.{local_type, put, is_in_range, load_rule, store_rule, increment_rule}
 use Rattle.nr_linked.specs.TypingCalls.{class_made_at, is_return_of, take_result, return_rule}

@@ -19,7 +19,8 @@ use Rattle.nr_linked.specs.BuiltIns.{built_in}
 use Rattle.nr_linked.specs.Slots.{slots_of}
 use Rattle.nr_linked.specs.Sites.{Site}
 use Rattle.nr_linked.specs.Subtypes.{is_assignable, is_sub, is_above}
-use Rattle.nr_linked.specs.TypingFrames.{TypeFrame, of_base, of_kind, is_initialised, is_initialiser, is_operand_assignable}
+use Rattle.nr_linked.specs.TypingFrames.{TypeFrame, of_base, of_kind, is_initialised, is_operand_assignable}
+use Rattle.nr_linked.specs.Initialisers.{is_initialiser}
 use Rattle.nr_linked.specs.TypingChecks.{Checked, Leaves, take_that, leaves_operands}
 use Rattle.nr_linked.specs.TypingObjects.{with_slot, get_slot_rule, put_slot_rule, is_put_receiver, get_field_rule, put_field_rule, holds_made_at, forgotten, new_rule, test_rule, throwable_type, throw_rule}
 use Rattle.nr_linked.specs.TypingCalls.{class_made_at}

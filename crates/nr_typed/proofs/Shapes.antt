@@ -22,8 +22,10 @@ use Rattle.nr_linked.specs.Sites.{Site, site_at}
 use Rattle.nr_linked.specs.Subtypes.{is_assignable}
 use Rattle.nr_linked.specs.TypingFrames.{TypeFrame}
 use Rattle.nr_linked.specs.TypingChecks.{Checked, Leaves, take_letters, leaves_operands}
-use Rattle.nr_linked.specs.TypingLocals.{numbered, with_number, load_rule, store_rule, wide_rule}
-use Rattle.nr_linked.specs.TypingArrays.{primitive_of, primitive_array_rule, new_array_rule}
+use Rattle.nr_linked.specs.LocalNumbers.{local_of}
+use Rattle.nr_linked.specs.TypingLocals.{with_number, load_rule, store_rule, wide_rule}
+use Rattle.nr_linked.specs.TypingArrays.{primitive_array_rule, new_array_rule}
+use Rattle.nr_linked.specs.ArrayKinds.{primitive_of}
 use Rattle.nr_linked.specs.TypingObjects.{get_field_rule, put_field_rule, new_rule, test_rule}
 use Rattle.nr_linked.specs.TypingCalls.{class_made, class_made_at}
 use Rattle.nr_linked.specs.TypingRules.{iinc_rule}
@@ -32,7 +34,7 @@ use Rattle.nr_linked.specs.WellTyped.{targets_of}
 use Rattle.nr_heap.specs.Heaps.{Heap}
 use Rattle.nr_heap.specs.Scripts.{PlainInt, PlainLong, Script, GoTo, Within, Ending}
 use Rattle.nr_heap.specs.Throws.{with_found}
-use Rattle.nr_heap.specs.ValueRules.{small_constant, pool_constant, local_of, load, store, target_at, target_of}
+use Rattle.nr_heap.specs.ValueRules.{small_constant, pool_constant, load, store, target_at, target_of}
 use Rattle.nr_heap.specs.ArrayRules.{new_array}
 use Rattle.nr_heap.specs.ObjectRules.{get_field, put_field, new_of, check_cast, instance_of}
 use Rattle.nr_heap.specs.Rules as rules
@@ -121,12 +123,12 @@ module _ (P : ProgramTables) (facts : TypingFacts P) (own : MethodInfo) (F G : T
 
   -- ---- local variables
 
-  pub numbered_loads : (letter : Letter) (group code : ℕ) (a : Args) (k : Script) → On k → with_number (numbered group code a) (λ i. load_rule own letter i F) ≡ Leaves G → Fit (with_found (local_of group code a) (λ i. load letter i k))
+  pub numbered_loads : (letter : Letter) (group code : ℕ) (a : Args) (k : Script) → On k → with_number (local_of group code a) (λ i. load_rule own letter i F) ≡ Leaves G → Fit (with_found (local_of group code a) (λ i. load letter i k))
   numbered_loads letter group code (args.Local i) k g e = loads P facts own F G h0 Q letter i k g e
   numbered_loads letter group code args.Empty k g e = loads P facts own F G h0 Q letter (code - group) k g e
   numbered_loads letter group code _ k g e = no_rule G e
 
-  pub numbered_stores : (letter : Letter) (group code : ℕ) (a : Args) (k : Script) → On k → with_number (numbered group code a) (λ i. store_rule own letter i F) ≡ Leaves G → Fit (with_found (local_of group code a) (λ i. store letter i k))
+  pub numbered_stores : (letter : Letter) (group code : ℕ) (a : Args) (k : Script) → On k → with_number (local_of group code a) (λ i. store_rule own letter i F) ≡ Leaves G → Fit (with_found (local_of group code a) (λ i. store letter i k))
   numbered_stores letter group code (args.Local i) k g e = stores P facts own F G h0 Q letter i k g e
   numbered_stores letter group code args.Empty k g e = stores P facts own F G h0 Q letter (code - group) k g e
   numbered_stores letter group code _ k g e = no_rule G e

@@ -20,15 +20,16 @@ use Rattle.nr_prog.specs.Members.{is_static}
 use Rattle.nr_linked.specs.BuiltIns.{BuiltInMethod, built_in_class}
 use Rattle.nr_linked.specs.Programs.{method_at}
 use Rattle.nr_linked.specs.Sites.{Site}
-use Rattle.nr_linked.specs.TypingFrames.{TypeFrame, of_kind, of_kinds, is_operand_assignable, operands_fit, is_initialiser}
+use Rattle.nr_linked.specs.TypingFrames.{TypeFrame, of_kind, of_kinds, is_operand_assignable, operands_fit}
+use Rattle.nr_linked.specs.Initialisers.{is_initialiser}
 use Rattle.nr_linked.specs.TypingChecks.{Leaves, leaves_operands}
 use Rattle.nr_linked.specs.TypingCalls.{with_result}
-use Rattle.nr_linked.specs.TypingArrays.{Of}
+use Rattle.nr_linked.specs.ArrayKinds.{Of}
 use Rattle.nr_linked.specs.TypingFacts.{TypingFacts, CallFacts}
 use Rattle.nr_heap.specs.Heaps.{Heap}
 use Rattle.nr_heap.specs.Scripts.{Script, Call, PopInt, PopLong, Drop, AskKind, Print, Within, Ending}
 use Rattle.nr_heap.specs.Throws.{with_found, which}
-use Rattle.nr_heap.specs.ArrayRules.{is_primitive}
+use Rattle.nr_linked.specs.ArrayKinds.{is_base}
 use Rattle.nr_heap.specs.Printing.{bytes_of_units}
 use Rattle.nr_heap.specs.CallRules.{operands_of, with_units, print_chars, out_rule, built_in_rule, call}
 use Rattle.nr_typed.specs.Types.{argument_tys, Ty, Word, Small, Object, Exact, kind_tys, ty_of, operand_tys, local_tys, kept_ty}
@@ -65,12 +66,12 @@ module _ (P : ProgramTables) (facts : TypingFacts P) (own : MethodInfo) (F G : T
         (omega arith, subst (λ t. OnAnInt t ((u : ℤ) → Fits P h0 Q (with_units i (to_char u ∷ vs) f) LT (Exact r n ∷ operand_tys own us))) (sym (slot i)) (λ u. units_fit i n (omega arith) r slot (to_char u ∷ vs) f p))
 
     chars_fit : (t : VType) → T (is_operand_assignable P t (types.Class (kind 1 bases.Char))) → Fits P h0 Q (print_chars P k) LT (ty_of Word own t ∷ operand_tys own us)
-    chars_fit t p = on_wanted P facts own F G h0 Q (kind 1 bases.Char) t _ (λ x. Fits P h0 Q (AskKind 0 (λ a n. with_found (element_of a) (λ e. which (is_primitive bases.Char e) (with_units n [] (λ us. Drop 0 (Print (bytes_of_units us) k)))))) LT (x ∷ operand_tys own us)) p
+    chars_fit t p = on_wanted P facts own F G h0 Q (kind 1 bases.Char) t _ (λ x. Fits P h0 Q (AskKind 0 (λ a n. with_found (element_of a) (λ e. which (is_base bases.Char e) (with_units n [] (λ us. Drop 0 (Print (bytes_of_units us) k)))))) LT (x ∷ operand_tys own us)) p
         (null_throw P facts own F G h0 Q s owed _ _) (λ d q r n b z.
         let x = elements P facts (Of bases.Char) (kind 1 bases.Char) r tt (trans P facts r d (kind 1 bases.Char) b q) in
         let c = is_the_base bases.Char x.0 x.1.passes in
-        subst (λ o. Fits P h0 Q (with_found o (λ e. which (is_primitive bases.Char e) (with_units n [] (λ us. Drop 0 (Print (bytes_of_units us) k))))) LT (Exact r n ∷ operand_tys own us)) (sym x.1.is_element_of)
-        (which_fits P facts own F G h0 Q (is_primitive bases.Char x.0) (with_units n [] (λ us. Drop 0 (Print (bytes_of_units us) k))) LT (Exact r n ∷ operand_tys own us) x.1.passes
+        subst (λ o. Fits P h0 Q (with_found o (λ e. which (is_base bases.Char e) (with_units n [] (λ us. Drop 0 (Print (bytes_of_units us) k))))) LT (Exact r n ∷ operand_tys own us)) (sym x.1.is_element_of)
+        (which_fits P facts own F G h0 Q (is_base bases.Char x.0) (with_units n [] (λ us. Drop 0 (Print (bytes_of_units us) k))) LT (Exact r n ∷ operand_tys own us) x.1.passes
         (units_fit n n (omega arith) r (λ j. x.1.slot j ∙ ap kept_ty c) [] (λ us. Drop 0 (Print (bytes_of_units us) k)) (λ ws. (omega arith, done)))))
 
     int_fits : (f : ℤ → List ℕ) (t : VType) → T (is_operand_assignable P t types.Int) → Fits P h0 Q (PopInt (λ n. Print (f n) k)) LT (ty_of Word own t ∷ operand_tys own us)

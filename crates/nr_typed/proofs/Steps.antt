@@ -19,11 +19,12 @@ use Rattle.nr_linked.specs.Sites.{Site, first_offset, site_among, site_at}
 use Rattle.nr_linked.specs.Subtypes.{is_assignable, is_above}
 use Rattle.nr_linked.specs.TypingFrames.{TypeFrame, locals_fit, operands_fit, frame_fits, total_size}
 use Rattle.nr_linked.specs.TypingFacts.{TypingFacts}
-use Rattle.nr_linked.specs.WellTyped.{covers as covers_at, map_at, frame_among, frame_at, Comes, ComesTo, FitsMap, caught_type, with_catches, catchers, handler_frame, MethodTyped, WellTyped}
+use Rattle.nr_linked.specs.WellTyped.{map_at, frame_among, frame_at, Comes, ComesTo, FitsMap, caught_type, with_catches, catchers, handler_frame, MethodTyped, WellTyped}
+use Rattle.nr_linked.specs.Handlers.{covers}
 use Rattle.nr_heap.specs.declared.value.Value.TheVariants.{Ref}
 use Rattle.nr_heap.specs.Heaps.{Obj, Heap, on_some}
 use Rattle.nr_heap.specs.States.{Frame, Running}
-use Rattle.nr_heap.specs.Steps.{covers, catches, first_handler, handler_at, unwound}
+use Rattle.nr_heap.specs.Steps.{catches, first_handler, handler_at, unwound}
 use Rattle.nr_typed.specs.Types.{Word, ty_of, operand_tys, local_tys}
 use Rattle.nr_typed.specs.Belonging.{Belongs, Belong, no_place, one_place, AllSharper}
 use Rattle.nr_typed.specs.TypedHeaps.{Stays}
@@ -180,14 +181,14 @@ module _ (P : ProgramTables) (facts : TypingFacts P) where
       handler : Handler
       what : Option Kind
       among : Contains hs (handler, what)
-      covers_it : T (covers offset handler)
+      covers_it : T (covers handler offset)
       catches_it : T (catches P kind what)
       target : handler.handler ≡ t
 
-    this_or : (kind : Kind) (offset : ℕ) (x : Handler) (c : Option Kind) (hs : List (Handler × Option Kind)) (t : ℕ) (y : Bool) (o : Option ℕ) → (T y → T (covers offset x && catches P kind c)) → (o ≡ Some t → Caught kind offset hs t)
+    this_or : (kind : Kind) (offset : ℕ) (x : Handler) (c : Option Kind) (hs : List (Handler × Option Kind)) (t : ℕ) (y : Bool) (o : Option ℕ) → (T y → T (covers x offset && catches P kind c)) → (o ≡ Some t → Caught kind offset hs t)
         → (if y then Some x.handler else o) ≡ Some t → Caught kind offset ((x, c) ∷ hs) t
     this_or kind offset x c hs t true o p f e =
-        let q = and_both (covers offset x) (catches P kind c) (p tt) in
+        let q = and_both (covers x offset) (catches P kind c) (p tt) in
         record { handler = x; what = c; among = (0, omega arith, refl); covers_it = q.0; catches_it = q.1; target = some_same e }
     this_or kind offset x c hs t false o p f e =
         let r = f e in
@@ -196,7 +197,7 @@ module _ (P : ProgramTables) (facts : TypingFacts P) where
     caught : (kind : Kind) (offset : ℕ) (hs : List Handler) (cs : List (Option Kind)) (t : ℕ) → first_handler P offset kind hs cs ≡ Some t → Caught kind offset (with_catches hs cs) t
     caught kind offset [] cs t e = absurd (none_some e)
     caught kind offset (x ∷ hs) [] t e = absurd (none_some e)
-    caught kind offset (x ∷ hs) (c ∷ cs) t e = this_or kind offset x c (with_catches hs cs) t (covers offset x && catches P kind c) (first_handler P offset kind hs cs) (λ p. p) (λ e. caught kind offset hs cs t e) e
+    caught kind offset (x ∷ hs) (c ∷ cs) t e = this_or kind offset x c (with_catches hs cs) t (covers x offset && catches P kind c) (first_handler P offset kind hs cs) (λ p. p) (λ e. caught kind offset hs cs t e) e
 
     caught_ok : (m : MethodInfo) (h : Heap) (o : Obj) (a : ℕ) → get h a ≡ Some o → T (is_assignable P o.kind (class_kind (built_in P built_ins.Throwable))) → (c : Option Kind) → T (catches P o.kind c) → Belongs P h (ty_of Word m (caught_type P c)) (Ref a)
     caught_ok m h o a e p None q = at_some (get h a) o (λ o. T (is_assignable P o.kind (class_kind (built_in P built_ins.Throwable)))) e p
@@ -221,7 +222,7 @@ module _ (P : ProgramTables) (facts : TypingFacts P) where
           let m = method_of h f x in
           let s = (typed f.method m).sites f.offset x.site x.types x.is_site x.is_types in
           let here : x.site.instr.at ≡ f.offset = at_site f.method m f.offset x.site x.is_site in
-          let hf = s.handlers c.handler c.what c.among (subst (λ at. IsTrue (covers_at c.handler at)) (sym here) (holds (covers f.offset c.handler) c.covers_it)) in
+          let hf = s.handlers c.handler c.what c.among (subst (λ at. IsTrue (covers c.handler at)) (sym here) (holds (covers c.handler f.offset) c.covers_it)) in
           let g : TypeFrame = handler_frame P c.what x.types in
           let arrival : Arrival f.method m g t = subst (Arrival f.method m g) c.target (branch_to f.method m g c.handler.handler hf.fits) in (
             goes_on h f.method m g t arrival (record f { offset = t; operands = Ref a ∷ [] }) refl refl x.locals (one_place (caught_ok x.method h o a e thrown c.what c.catches_it) no_place)
