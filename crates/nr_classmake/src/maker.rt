@@ -19,7 +19,8 @@ use std::marker::Model;
 
 /// A class that is made, call by call. An entry of the constant pool that is there already isn't added
 /// again; else it comes to the end, after the entries that it names, in their order (the project's own
-/// rule). Contracts see it as the parts of its class. A call that fails changes nothing.
+/// rule). Contracts see it as the parts of its class. A call that fails changes nothing. What calls make
+/// together is what `calls_make_the_class` promises.
 #[derive(Debug, Drop)]
 pub struct ClassMaker {
     pool: Pool,
