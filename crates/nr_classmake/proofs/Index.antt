@@ -1,15 +1,14 @@
 -- An index beside a pool.
-use Rattle.std.proofs.Common.{◌≡◌, ℕ, ◌+◌, ◌<◌, ◌^◌, Bool, true, false, cond, List, [], ◌∷◌, ◌++◌, length, take, Option, Some, None, ◌⊎◌, inl, inr, refl, sym, ap, subst, ◌∙◌, arith, length-append, length-take}
-use Rattle.std.specs.Prelude.{All}
+use Rattle.std.proofs.Common.{◌≡◌, ℕ, ◌+◌, ◌<◌, ◌^◌, Bool, true, false, cond, List, [], ◌∷◌, ◌++◌, length, take, Option, Some, None, inl, inr, refl, sym, ap, subst, ◌∙◌, arith, length-append, length-take}
 use Rattle.std.specs.Ordering.{is_eq}
 use Rattle.std.specs.BTreeMap.{BTreeMap, get, Updates}
 use Rattle.std.proofs.lemmas.List.Elements.{All-nil, All-cons, All-append, All-take}
 use Rattle.nr_prog.specs.declared.pool.PoolEntry.{PoolEntry}
 use Rattle.nr_prog.specs.Pool.{text_len}
-use Rattle.nr_classmake.specs.Places.{is_same, is_at, slot_of, HasShortTexts}
+use Rattle.nr_classmake.specs.Places.{is_at, slot_of, HasShortTexts}
 use Rattle.nr_classmake.specs.Keys.{Key, is_kept, key_in, order, IsIndexed}
 use Rattle.nr_classmake.proofs.Keys.{same_key, one_key, equal}
-use Rattle.nr_classmake.proofs.Slots.{there, nowhere, below, at_end, among_first}
+use Rattle.nr_classmake.proofs.Slots.{there, nowhere, at_end, among_first}
 
 abbrev pub IsWhole : BTreeMap Key ℕ → List PoolEntry → Type 0
 IsWhole index pool = (length pool < 2 ^ 16) × HasShortTexts pool × IsIndexed index pool

@@ -1,13 +1,12 @@
 -- Entries that are looked up by the same key are equal.
-use Rattle.std.proofs.Common.{◌≡◌, ℕ, Bool, true, false, cond, List, [], refl, sym, ap, ◌∙◌}
+use Rattle.std.proofs.Common.{◌≡◌, ℕ, Bool, true, false, cond, List, refl, sym, ap, ◌∙◌}
 use Rattle.std.specs.Prelude.{ℤ, ◌&&◌, ◌==◌}
 use Rattle.std.specs.declared.cmp.Ordering.{Ordering}
-use Rattle.std.specs.Ordering.{ordering_then, nat_cmp, int_cmp, int_eq, is_eq}
+use Rattle.std.specs.Ordering.{ordering_then, nat_cmp, int_cmp, is_eq}
 use Rattle.std.specs.Cmp.{tied_then, unsigned_ties, unsigned_Decides, signed_Decides}
 use Rattle.std.specs.Cmp.Lexicographic.{slice_cmp, lists_ties, bytes_decides}
-use Rattle.std.specs.Str.{bytes_eq}
 use Rattle.nr_prog.specs.declared.pool.PoolEntry.{PoolEntry}
-use Rattle.nr_prog.specs.declared.pool.PoolEntry.TheVariants.{Utf8, Integer, Float, Long, Double, Class, Str, FieldRef, MethodRef, InterfaceMethodRef, NameAndType, Unused}
+use Rattle.nr_prog.specs.declared.pool.PoolEntry.TheVariants.{Utf8, Integer, Long, Class, FieldRef, MethodRef, InterfaceMethodRef, NameAndType}
 use Rattle.nr_classmake.specs.Places.{is_same}
 use Rattle.nr_classmake.specs.Keys.{Key, is_kept, key_in, order}
 

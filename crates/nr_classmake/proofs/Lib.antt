@@ -3,3 +3,9 @@ pub mod Slots
 pub mod Index
 pub mod Steps
 pub mod Parts
+pub mod Items
+pub mod Once
+pub mod Pools
+pub mod Adding
+pub mod Calls
+pub mod Entries

@@ -1,33 +1,48 @@
 -- What calls make of a class's parts.
-use Rattle.std.proofs.Common.{◌≡◌, ℕ, ◌+◌, ◌<◌, ◌≤◌, ◌^◌, List, [], ◌∷◌, ◌++◌, length, take, Option, Some, None, Result, Ok, Err, refl, sym, ap, subst, ◌∙◌, arith, length-append}
-use Rattle.std.specs.Prelude.{ℤ, IfErr}
+use Rattle.std.proofs.Common.{◌≡◌, ℕ, ◌+◌, ◌<◌, ◌≤◌, ◌^◌, Bool, true, false, cond, List, [], ◌∷◌, ◌++◌, length, take, Option, Some, None, Result, Ok, Err, refl, sym, ap, subst, ◌∙◌, arith, length-append}
+use Rattle.std.specs.Prelude.{IfOk, IfErr, ◌==◌}
 use Rattle.std.specs.Result.{IsErrAnd}
 use Rattle.nr_prog.specs.declared.pool.PoolEntry.{PoolEntry}
-use Rattle.nr_prog.specs.declared.pool.PoolEntry.TheVariants.{Utf8, Class}
-use Rattle.nr_prog.specs.declared.member.Code.{Code}
+use Rattle.nr_prog.specs.declared.pool.PoolEntry.TheVariants.{Utf8, Class, FieldRef, MethodRef, InterfaceMethodRef}
 use Rattle.nr_prog.specs.declared.member.Field.{Field}
 use Rattle.nr_prog.specs.declared.member.Method.{Method}
 use Rattle.nr_prog.specs.declared.parts.ClassParts.{ClassParts}
 use Rattle.nr_classmake.specs.declared.fault.MakeFault.{MakeFault}
 use Rattle.nr_classmake.specs.declared.fault.MakeFault.TheVariants as faults
-use Rattle.nr_classmake.specs.Classes.{Adds, Places, both, new_of, new_parts, with_interface, with_field, with_method}
-use Rattle.nr_classmake.specs.Making.{Making, and_then, nothing, class_ref, field, method}
+use Rattle.nr_classmake.specs.Items.{Item, FieldOf, MethodOf, InterfaceMethodOf}
+use Rattle.nr_classmake.specs.Calls.{Place, ref_item}
+use Rattle.nr_classmake.specs.Classes.{Does, placed, place_in}
+use Rattle.nr_classmake.specs.Making.{Making, and_then, class_ref, name_and_type, member_ref}
 use Rattle.nr_classmake.specs.Places.{with_entry, at_slot, slot_of}
 use Rattle.nr_classmake.specs.Words.{Extends, Makes}
-use Rattle.nr_classmake.proofs.Steps.{Keeps, class_keeps, goes_ok}
+use Rattle.nr_classmake.proofs.Steps.{Keeps}
 
-places_if : (r : Result ℕ MakeFault) (was : ClassParts) (mid : List PoolEntry) (made : List PoolEntry × ℕ) → Makes r was.pool mid made → Places r was (record was { pool = mid }) made
-places_if (Ok x) was mid made t = (
-  ap (λ (p : List PoolEntry × ℕ). record was { pool = p.0 }) (sym t.0),
+places_if : (r : Result ℕ MakeFault) (was : ClassParts) (mid : List PoolEntry) (item : Item) → Makes r was.pool mid (placed item was.pool)
+    → Does r was (record was { pool = mid }) (Place item) × IfOk r (λ place. place ≡ place_in was item)
+places_if (Ok x) was mid item t = (
+  (ap (λ (p : List PoolEntry × ℕ). record was { pool = p.0 }) (sym t.0), t.1),
   ap (λ (p : List PoolEntry × ℕ). p.1) (sym t.0),
-  subst (λ (p : List PoolEntry × ℕ). length p.0 < 2 ^ 16) (sym t.0) t.1,
 )
-places_if (Err faults.PoolFull) was mid made t = (t.0, ap (λ p. record was { pool = p }) t.1)
-places_if (Err faults.NoMemory) was mid made t = ap (λ p. record was { pool = p }) t
+places_if (Err faults.PoolFull) was mid item t = ((t.0, ap (λ p. record was { pool = p }) t.1), tt)
+places_if (Err faults.NoMemory) was mid item t = (ap (λ p. record was { pool = p }) t, tt)
 
-pub places : (r : Result ℕ MakeFault) (was old : ClassParts) (mid : List PoolEntry) (m : Making ℕ) → was ≡ old → Makes r was.pool mid (m was.pool)
-    → Places r old (record was { pool = mid }) (m old.pool)
-places r was old mid m view t = subst (λ o. Places r o (record was { pool = mid }) (m o.pool)) view (places_if r was mid (m was.pool) t)
+pub places : (r : Result ℕ MakeFault) (was old : ClassParts) (mid : List PoolEntry) (item : Item) → was ≡ old → Makes r was.pool mid (placed item was.pool)
+    → Does r old (record was { pool = mid }) (Place item) × IfOk r (λ place. place ≡ place_in old item)
+places r was old mid item view t =
+    subst (λ o. Does r o (record was { pool = mid }) (Place item) × IfOk r (λ place. place ≡ place_in o item)) view (places_if r was mid item t)
+
+-- a reference is placed by its tag
+ref_if : (nine ten : Bool) (class name desc : List ℕ)
+    → placed (cond nine (FieldOf class name desc) (cond ten (MethodOf class name desc) (InterfaceMethodOf class name desc)))
+    ≡ and_then (class_ref class) (λ c. and_then (name_and_type name desc) (λ m. with_entry (cond nine (FieldRef c m) (cond ten (MethodRef c m) (InterfaceMethodRef c m)))))
+unfolding member_ref
+ref_if true ten class name desc = refl
+ref_if false true class name desc = refl
+ref_if false false class name desc = refl
+
+pub placed_ref : (tag : ℕ) (class name desc : List ℕ) → placed (ref_item tag class name desc) ≡ member_ref tag class name desc
+unfolding member_ref
+placed_ref tag class name desc = ref_if (tag == 9) (tag == 10) class name desc
 
 -- what was added to the pool is taken back
 pub back : {X : Type 0} (m : Making X) (x : X) (mark : ℕ) (old mid new : List PoolEntry) → Keeps m → m old ≡ (mid, x) → mark ≡ length old → new ≡ take mark mid → new ≡ old

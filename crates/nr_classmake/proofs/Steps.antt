@@ -1,15 +1,14 @@
 -- What is made step by step of a pool.
-use Rattle.std.proofs.Common.{◌≡◌, ℕ, ◌+◌, ◌<◌, ◌≤◌, ◌^◌, Bool, true, false, cond, List, [], ◌∷◌, ◌++◌, length, take, Option, Some, None, refl, sym, ap, subst, ◌∙◌, arith, length-append, length-take-le, length-take, take-take, take_all}
+use Rattle.std.proofs.Common.{◌≡◌, ℕ, ◌+◌, ◌<◌, ◌≤◌, ◌^◌, Bool, List, ◌++◌, length, take, Option, Some, None, sym, ap, subst, ◌∙◌, arith, length-take, take-take, take_all}
 use Rattle.std.proofs.lemmas.List.{take-append-le}
 use Rattle.std.specs.Prelude.{ℤ, codes, Result, Ok, Err, OnOk, OnErr}
 use Rattle.std.specs.Result.{IsErrAnd}
 use Rattle.nr_classmake.specs.declared.fault.MakeFault.{MakeFault}
 use Rattle.nr_classmake.specs.declared.fault.MakeFault.TheVariants as faults
 use Rattle.nr_classmake.specs.Words.{Extends, Tries, Makes}
-use Rattle.nr_classmake.specs.Making.{Making, and_then, class_ref, names, name_and_type, nothing, number_entry, number, constant, is_long_desc, field, maps_name, code_names, body_names, method}
+use Rattle.nr_classmake.specs.Making.{Making, and_then, class_ref, names, name_and_type, number_entry, number, constant, is_long_desc, field, maps_name, code_names, body_names, method}
 use Rattle.nr_prog.specs.declared.pool.PoolEntry.{PoolEntry}
 use Rattle.nr_prog.specs.declared.pool.PoolEntry.TheVariants.{Utf8, Class, NameAndType}
-use Rattle.nr_prog.specs.declared.member.Field.{Field}
 use Rattle.nr_prog.specs.declared.member.Code.{Code}
 use Rattle.nr_classmake.specs.Places.{slot_of, with_entry, added, at_slot, spread}
 

@@ -1,6 +1,6 @@
 -- What calls make: each entry after the entries that it names, in their order (JVM Specification 4.4 to 4.7; the order
 -- is the project's own).
-use Rattle.std.specs.Prelude.{ℕ, ℤ, List, ◌∷◌, [], ◌++◌, Option, Some, None, Bool, true, false, codes, if◌then◌else◌, ◌==◌}
+use Rattle.std.specs.Prelude.{ℕ, ℤ, List, Option, Some, None, Bool, true, false, codes, if◌then◌else◌, ◌==◌}
 use Rattle.std.specs.Int.{w32}
 use Rattle.std.specs.Int.RustNames.{FitsSigned}
 use Rattle.std.specs.Str.{bytes_eq}

@@ -1,5 +1,5 @@
 -- What calls that add to a pool owe.
-use Rattle.std.specs.Prelude.{◌≡◌, ℕ, ◌≤◌, ◌<◌, ◌^◌, List, length, take, Result, Ok, Err}
+use Rattle.std.specs.Prelude.{◌≡◌, ◌≤◌, ◌<◌, ◌^◌, List, length, take, Result, Ok, Err}
 use Rattle.nr_prog.specs.declared.pool.PoolEntry.{PoolEntry}
 use Rattle.nr_classmake.specs.declared.fault.MakeFault.{MakeFault}
 use Rattle.nr_classmake.specs.declared.fault.MakeFault.TheVariants as faults

@@ -1,13 +1,13 @@
 //! A class that is made.
 
-ghost use Rattle.std.specs.Prelude.{◌≡◌, ◌<◌, ◌≤◌, ◌^◌, length, take, IfOk, IfErr, OnOk, Ok};
+ghost use Rattle.std.specs.Prelude.{◌≡◌, ◌<◌, ◌≤◌, ◌^◌, ◌↔◌, length, All, IfOk, IfErr, IsTrue, Ok};
 ghost use Rattle.nr_base.specs.Clauses.{GivesWhole};
-ghost use Rattle.nr_prog.specs.declared.pool.PoolEntry.TheVariants.{Integer, Long, Utf8};
 ghost use Rattle.nr_prog.specs.Faults.{is_free};
 ghost use Rattle.nr_prog.specs.Form.{IsFormed, class_of, handler_count};
-ghost use Rattle.nr_classmake.specs.Classes.{Adds, Places, new_parts, with_field, with_interface, with_method};
-ghost use Rattle.nr_classmake.specs.Making.{ConstantFits, class_ref, is_long_desc, member_ref};
-ghost use Rattle.nr_classmake.specs.Places.{with_entry};
+ghost use Rattle.nr_classmake.specs.Calls.{AddField, AddInterface, AddMethod, Place, ref_item};
+ghost use Rattle.nr_classmake.specs.Classes.{Does, new_parts, place_in};
+ghost use Rattle.nr_classmake.specs.Items.{ClassNamed, IntNumber, LongNumber, Text};
+ghost use Rattle.nr_classmake.specs.Making.{ConstantFits, is_long_desc};
 ghost use Rattle.nr_classmake.specs.declared.fault.MakeFault.TheVariants as faults;
 
 use crate::fault::MakeFault;
@@ -32,15 +32,28 @@ pub struct ClassMaker {
 }
 
 impl Model for ClassMaker {
-    ghost use Rattle.std.specs.Prelude.{◌≤◌, ◌^◌, length, All};
     ghost use Rattle.nr_prog.specs.declared.parts.ClassParts.{ClassParts};
-    ghost use Rattle.nr_prog.specs.Form.{handler_count};
 
     ghost Value = { ClassParts };
 
     ghost view = { λ m. record { pool = m.pool; flags = m.flags; this_class = m.this_class; super_class = m.super_class; interfaces = m.interfaces; fields = m.fields; methods = m.methods } };
+}
 
-    ghost invariant = { λ m. (length m.methods ≤ 2 ^ 16) × All (λ method. handler_count method.code ≤ 2 ^ 16) m.methods };
+fn handler_count(method: &Method) -> usize
+    ensures { result ≡ handler_count method.now.code }
+{
+    match &method.code {
+        None => 0,
+        Some(code) => code.handlers.len(),
+    }
+}
+
+fn are_handlers_few(methods: &[Method]) -> bool
+    ensures { IsTrue result ↔ All (λ m. handler_count m.code ≤ 2 ^ 16) methods.now }
+{
+    methods
+        .iter()
+        .all(|method| handler_count(method) <= 0x1_0000)
 }
 
 impl ClassMaker {
@@ -77,7 +90,8 @@ impl ClassMaker {
     /// memory. So it is with the calls below.
     pub fn utf8(&mut self, alloc: Global, bytes: &[u8]) -> Result<u16, MakeFault>
         requires { length bytes.now < 2 ^ 16 }
-        ensures { Places result self.old self.new (with_entry (Utf8 bytes.now) self.old.pool) }
+        ensures made { Does result self.old self.new (Place (Text bytes.now)) }
+        ensures place { IfOk result (λ place. place ≡ place_in self.old (Text bytes.now)) }
     {
         let text = Items::of(alloc, bytes)?;
         self.pool.entry(alloc, PoolEntry::Utf8(text))
@@ -85,21 +99,24 @@ impl ClassMaker {
 
     /// The place of a class (JVM Specification 4.4.1).
     pub fn class_ref(&mut self, alloc: Global, name: &Name) -> Result<u16, MakeFault>
-        ensures { Places result self.old self.new (class_ref name.now self.old.pool) }
+        ensures made { Does result self.old self.new (Place (ClassNamed name.now)) }
+        ensures place { IfOk result (λ place. place ≡ place_in self.old (ClassNamed name.now)) }
     {
         self.pool.class_ref(alloc, name)
     }
 
     /// The place of an int (JVM Specification 4.4.4).
     pub fn int_const(&mut self, alloc: Global, value: i32) -> Result<u16, MakeFault>
-        ensures { Places result self.old self.new (with_entry (Integer value) self.old.pool) }
+        ensures made { Does result self.old self.new (Place (IntNumber value)) }
+        ensures place { IfOk result (λ place. place ≡ place_in self.old (IntNumber value)) }
     {
         self.pool.entry(alloc, PoolEntry::Integer(value))
     }
 
     /// The place of a long (JVM Specification 4.4.5).
     pub fn long_const(&mut self, alloc: Global, value: i64) -> Result<u16, MakeFault>
-        ensures { Places result self.old self.new (with_entry (Long value) self.old.pool) }
+        ensures made { Does result self.old self.new (Place (LongNumber value)) }
+        ensures place { IfOk result (λ place. place ≡ place_in self.old (LongNumber value)) }
     {
         self.pool.entry(alloc, PoolEntry::Long(value))
     }
@@ -116,14 +133,17 @@ impl ClassMaker {
     ) -> Result<u16, MakeFault>
         requires from { 9 ≤ tag }
         requires to { tag ≤ 11 }
-        ensures { Places result self.old self.new (member_ref tag class.now name.now desc.now self.old.pool) }
+        ensures made { let item = ref_item tag class.now name.now desc.now in
+            Does result self.old self.new (Place item) }
+        ensures place { let item = ref_item tag class.now name.now desc.now in
+            IfOk result (λ place. place ≡ place_in self.old item) }
     {
         self.pool.member_ref(alloc, tag, class, name, desc)
     }
 
     /// Adds a direct superinterface (JVM Specification 4.1).
     pub fn add_interface(&mut self, alloc: Global, name: &Name) -> Result<(), MakeFault>
-        ensures { Adds result self.old self.new (with_interface name.now self.old) }
+        ensures { Does result self.old self.new (AddInterface name.now) }
     {
         let mark = self.pool.len();
         let class = self.pool.class_ref(alloc, name)?;
@@ -147,7 +167,7 @@ impl ClassMaker {
         constant: Option<i64>,
     ) -> Result<(), MakeFault>
         requires { ConstantFits (is_long_desc desc.now) constant }
-        ensures { Adds result self.old self.new (with_field flags name.now desc.now constant self.old) }
+        ensures { Does result self.old self.new (AddField flags name.now desc.now constant) }
     {
         let mark = self.pool.len();
         let field = self.pool.field(alloc, flags, name, desc, constant)?;
@@ -169,9 +189,7 @@ impl ClassMaker {
         desc: &Name,
         code: Option<Code>,
     ) -> Result<(), MakeFault>
-        requires methods { length self.old.methods < 2 ^ 16 }
-        requires handlers { handler_count code ≤ 2 ^ 16 }
-        ensures { Adds result self.old self.new (with_method flags name.now desc.now code self.old) }
+        ensures { Does result self.old self.new (AddMethod flags name.now desc.now code) }
     {
         let mark = self.pool.len();
         let (name, desc) = self.pool.method(alloc, name, desc, &code)?;
@@ -190,12 +208,23 @@ impl ClassMaker {
         }
     }
 
-    /// The class that was made.
+    /// Whether there are at most 65,536 methods, and as many handlers in each, as `finish` asks.
+    pub fn is_within_bounds(&self) -> bool
+        ensures { IsTrue result ↔ ((length self.now.methods ≤ 2 ^ 16)
+            × All (λ m. handler_count m.code ≤ 2 ^ 16) self.now.methods) }
+    {
+        self.methods.len() <= 0x1_0000 && are_handlers_few(self.methods.as_slice())
+    }
+
+    /// The class that was made. It has at most 65,536 methods, and as many handlers in each: the
+    /// project's own bounds.
     ///
     /// # Errors
     ///
     /// The first fault of its form, as with `Class::from_parts`.
     pub fn finish(self, alloc: Global) -> Result<Class, FormFault>
+        requires methods { length self.methods ≤ 2 ^ 16 }
+        requires handlers { All (λ m. handler_count m.code ≤ 2 ^ 16) self.methods }
         ensures formed { IfOk result (λ c. (c ≡ self) × IsFormed self) }
         ensures only { IsFormed self → GivesWhole is_free result (Ok self) }
         ensures exact { GivesWhole is_free result (class_of self) }

@@ -1,6 +1,6 @@
-use Rattle.std.proofs.Common.{◌≡◌, ◌<◌, ◌+◌, arith, sym, ◌∙◌, subst, Some, refl, true, false, ap}
+use Rattle.std.proofs.Common.{◌≡◌, arith, sym, ◌∙◌, subst, Some, true, false, ap}
 use Rattle.std.specs.BTreeMap.{get}
-use Rattle.nr_classmake.specs.Keys.{key_in, order}
+use Rattle.nr_classmake.specs.Keys.{order}
 use Rattle.nr_classmake.specs.Places.{is_at, slot_of}
 use Rattle.nr_classmake.proofs.Index.{found, absent}
 use Rattle.nr_classmake.proofs.Slots.{below}

@@ -1,4 +1,4 @@
-use Rattle.std.proofs.Common.{sym, ◌∙◌, subst, arith}
+use Rattle.std.proofs.Common.{sym, ◌∙◌, subst}
 use Rattle.nr_classmake.specs.Words.{Tries}
 use Rattle.nr_classmake.proofs.Steps.{is_there, is_added}
 use Rattle.nr_classmake.proofs.pool.Pool.place.Goals as goal

@@ -1,4 +1,4 @@
-use Rattle.std.proofs.Common.{Err, ◌≡◌, sym, subst, refl}
+use Rattle.std.proofs.Common.{Err, ◌≡◌, subst}
 use Rattle.nr_prog.specs.declared.pool.PoolEntry.TheVariants.{Utf8, Class}
 use Rattle.nr_classmake.specs.Making.{class_ref}
 use Rattle.nr_classmake.specs.Places.{with_entry}

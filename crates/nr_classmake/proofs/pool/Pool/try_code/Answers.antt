@@ -1,4 +1,3 @@
-use Rattle.std.proofs.Common.{◌≡◌, Err, subst}
 use Rattle.std.specs.Prelude.{codes}
 use Rattle.nr_prog.specs.declared.pool.PoolEntry.TheVariants.{Utf8}
 use Rattle.nr_classmake.specs.Making.{code_names, maps_name}

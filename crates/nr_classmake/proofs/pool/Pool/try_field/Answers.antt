@@ -1,8 +1,8 @@
 use Rattle.std.proofs.Common.{ℕ, ◌≡◌, Err, subst, ◌∙◌}
 use Rattle.nr_prog.specs.declared.member.Field.{Field}
-use Rattle.nr_classmake.specs.Making.{Making, names, constant, is_long_desc, body_names, field, and_then, nothing}
+use Rattle.nr_classmake.specs.Making.{names, constant, is_long_desc, field, and_then, nothing}
 use Rattle.nr_classmake.specs.Words.{Tries}
-use Rattle.nr_classmake.proofs.Steps.{hands_on, goes_on, goes_ok, names_keep, constant_keeps, code_keeps, then_keeps, nothing_keeps}
+use Rattle.nr_classmake.proofs.Steps.{hands_on, goes_on, goes_ok, names_keep, constant_keeps, then_keeps, nothing_keeps}
 use Rattle.nr_classmake.proofs.pool.Pool.try_field.Goals as goal
 
 abbrev to_field : (flags name desc constant : ℕ) → Field

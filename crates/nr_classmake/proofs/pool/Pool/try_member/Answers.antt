@@ -1,4 +1,4 @@
-use Rattle.std.proofs.Common.{◌≡◌, Err, subst, sym}
+use Rattle.std.proofs.Common.{subst}
 use Rattle.nr_classmake.specs.Making.{class_ref, name_and_type, member_ref, ref_entry, and_then}
 use Rattle.nr_classmake.specs.Places.{with_entry}
 use Rattle.nr_classmake.specs.Words.{Tries}

@@ -1,8 +1,6 @@
-use Rattle.std.proofs.Common.{◌≡◌, Err, subst, ◌∙◌}
-use Rattle.nr_prog.specs.declared.member.Field.{Field}
-use Rattle.nr_classmake.specs.Making.{Making, names, constant, is_long_desc, body_names, method, and_then, nothing}
-use Rattle.nr_classmake.specs.Words.{Tries}
-use Rattle.nr_classmake.proofs.Steps.{hands_on, goes_on, goes_ok, names_keep, constant_keeps, code_keeps, then_keeps, nothing_keeps}
+use Rattle.std.proofs.Common.{◌∙◌}
+use Rattle.nr_classmake.specs.Making.{names, body_names, method, and_then, nothing}
+use Rattle.nr_classmake.proofs.Steps.{hands_on, goes_on, goes_ok, names_keep, code_keeps, then_keeps, nothing_keeps}
 use Rattle.nr_classmake.proofs.pool.Pool.try_method.Goals as goal
 
 pub returns-in_err-name : goal.returns-in_err-name

@@ -1,4 +1,3 @@
-use Rattle.std.proofs.Common.{◌≡◌, Err}
 use Rattle.nr_prog.specs.declared.pool.PoolEntry.TheVariants.{NameAndType}
 use Rattle.nr_classmake.specs.Making.{names, name_and_type}
 use Rattle.nr_classmake.specs.Places.{with_entry}

@@ -1,4 +1,4 @@
-use Rattle.std.proofs.Common.{◌≡◌, Err, sym, subst, refl, ap, ◌∙◌}
+use Rattle.std.proofs.Common.{◌≡◌, Err, subst, ◌∙◌}
 use Rattle.nr_prog.specs.declared.pool.PoolEntry.TheVariants.{Utf8}
 use Rattle.nr_classmake.specs.Making.{names, and_then, nothing}
 use Rattle.nr_classmake.specs.Places.{with_entry}
