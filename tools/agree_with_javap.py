@@ -12,7 +12,8 @@ import re
 import shutil
 import subprocess
 import sys
-import tempfile
+
+import copied_crates
 
 PROGRAM = r'''//! Prints the instructions of a class file.
 #![tactic(auto)]
@@ -162,29 +163,13 @@ def from_program(lines):
     return files
 
 
-def run_program(paths):
-    top = os.path.dirname(os.path.dirname(os.path.abspath(__file__)))
-    with tempfile.TemporaryDirectory() as copy:
-        shutil.copytree(os.path.join(top, 'crates'), os.path.join(copy, 'crates'), ignore=shutil.ignore_patterns('out'))
-        shutil.copy(os.path.join(top, 'HANDLES'), copy)
-        with open(os.path.join(top, 'crates.txt')) as crates, open(os.path.join(copy, 'crates.txt'), 'w') as out:
-            out.write(crates.read() + 'list_code: nr_base nr_optable nr_prog nr_outside nr_code\n')
-        crate = os.path.join(copy, 'crates', 'list_code')
-        os.makedirs(os.path.join(crate, 'src'))
-        with open(os.path.join(crate, 'src', 'main.rt'), 'w') as out:
-            out.write(PROGRAM)
-        run = subprocess.run(['rt', 'try', '--'] + paths, cwd=crate, capture_output=True, text=True)
-        if run.returncode != 0:
-            sys.exit(run.stdout[-3000:] + run.stderr[-3000:])
-        return run.stdout.split('\n')
-
-
 def main():
     if not shutil.which('javap'):
         print('javap is missing: nothing was compared')
         return
     paths = [os.path.abspath(path) for path in sys.argv[1:]]
-    told = from_program(line for line in run_program(paths) if re.match(r'(file|refused|method|\d+ \d+)', line))
+    printed = copied_crates.run('list_code', 'nr_base nr_optable nr_prog nr_outside nr_code', PROGRAM, paths)
+    told = from_program(line for line in printed if re.match(r'(file|refused|method|\d+ \d+)', line))
     methods = instructions = 0
     codes = set()
     for path in paths:

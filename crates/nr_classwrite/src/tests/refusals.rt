@@ -4,13 +4,13 @@ use super::shape::class_of;
 use crate::write_class;
 use std::test::Fail;
 
-// Of a class: at least how many entries the pool has, the names of attributes in it, the interfaces, the fields without
-// a constant value and with one, the abstract methods, and the code of other methods, each its bytes, its handlers and
-// the bytes of its frame maps, if it has some; then how many bytes are written by the widths of JVM Specification 4, or
-// the fault.
+// Of a class: at least how many entries the pool has, the names of attributes in it, the interfaces,
+// the fields without a constant value and with one, the abstract methods, and the code of other
+// methods, each its bytes, its handlers and the bytes of its frame maps, if it has some; then how many
+// bytes are written, by the widths of JVM Specification 4, or the fault.
 //
-// Other counts don't come. A class has at most 65,535 entries, 65,536 methods, and as many handlers in each; its code
-// has at most 65,535 bytes, so `Code` never comes; and for `Attributes` there must be 4 GiB of frame maps.
+// No class has more than 65,535 entries, 65,536 methods, 65,536 handlers in a method or 65,535 bytes of
+// code, so `Code` never comes. For `Attributes` there have to be some 4 GiB of frame maps.
 const ROWS: &str = "\
 65534||0|0|0|0||330433
 65535||0|0|0|0||TooLong(Pool, 65535)

@@ -56,8 +56,8 @@ fn pool(alloc: Global, names: &str, count: usize) -> Result<Items<PoolEntry>, Al
     Ok(pool)
 }
 
-// The indices of a member's name and of its descriptor, where 1 stands for a field and 2 for a method. The first
-// 65,536 members differ.
+// The indices of a member's name and of its descriptor, where 1 stands for a field and 2 for a method.
+// The first 65,536 members differ.
 fn indices(member: usize, kind: u16) -> (u16, u16)
     requires { kind < 3 }
 {
@@ -89,7 +89,7 @@ fn fields(alloc: Global, count: usize, constants: usize) -> Result<Items<Field>,
     Ok(fields)
 }
 
-// Code of so many bytes and handlers, and with so many bytes of frame maps where a third number stands.
+// Code of so many bytes and handlers, with so many bytes of frame maps where a third number stands.
 fn code(alloc: Global, counts: &str) -> Result<Code, Fail> {
     let mut counts = counts.split(':');
     let bytes = number(counts.next().ok_or("bytes")?)?;
