@@ -1,3 +1,4 @@
-//! Runs of the top call.
+//! Runs of the top call, and classes that are made.
+mod made;
 mod run;
 mod scene;
