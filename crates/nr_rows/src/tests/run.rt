@@ -1,8 +1,6 @@
 //! `run` on one class file.
 use crate::tests::scene::{M_CLASS, Scene, run_over};
-use std::alloc::{AllocError, Global};
 use std::process::Abort;
-use std::test::Fail;
 
 // Words, status, output and error line, each of the last two without its newline.
 const WORDS: &str = "\
@@ -80,8 +78,10 @@ const LENGTHS: &str = "\
 ";
 
 // A number of a line.
-fn number(part: Option<&str>) -> Result<usize, Fail> {
-    Ok(part.ok_or("a part")?.parse::<usize>()?)
+fn number<R: Abort>(rt: &R, part: Option<&str>) -> usize {
+    part.expect(rt, "a part")
+        .parse::<usize>()
+        .expect(rt, "a number")
 }
 
 // A run over one class file `M.class`.
@@ -91,47 +91,45 @@ fn expect<R: AllocGlobal + Abort>(
     class: &[u8],
     scene: Scene<'_>,
     wanted: (u8, &str, &str),
-) -> Result<(), Fail> {
-    let found = run_over(rt, words, &[("M.class", class)], scene)?;
+) {
+    let found = run_over(rt, words, &[("M.class", class)], scene);
     assert_eq!(rt; found.status, wanted.0, "{words:?}");
     assert_eq!(rt; found.out.as_slice(), wanted.1.as_bytes(), "{words:?}");
     assert_eq!(rt; found.err.as_slice(), wanted.2.as_bytes(), "{words:?}");
-    Ok(())
 }
 
 // A text and its newline, or nothing.
-fn line(alloc: Global, text: &str) -> Result<String, AllocError> {
-    if text.is_empty() {
-        return Ok(String::new(alloc));
-    }
-    format!(in alloc; "{text}\n")
+fn line<R: AllocGlobal + Abort>(rt: &R, text: Option<&str>) -> String {
+    let text = text.expect(rt, "a text");
+    let line = if text.is_empty() {
+        Ok(String::new(rt.alloc()))
+    } else {
+        format!(in rt.alloc(); "{text}\n")
+    };
+    line.expect(rt, "a line")
 }
 
-fn expect_line<R: AllocGlobal + Abort>(rt: &R, row: &str) -> Result<(), Fail> {
-    let alloc = rt.alloc();
+fn expect_line<R: AllocGlobal + Abort>(rt: &R, row: &str) {
     let mut parts = row.split('|');
-    let words: Vec<&str> = parts
-        .next()
-        .ok_or("words")?
-        .split_whitespace()
-        .collect(alloc)?;
-    let status = parts.next().ok_or("a status")?.parse::<u8>()?;
-    let out = line(alloc, parts.next().ok_or("an output")?)?;
-    let err = line(alloc, parts.next().ok_or("a line")?)?;
-    expect(rt, &words, &M_CLASS, Scene::SOUND, (status, &out, &err))
+    let words = parts.next().expect(rt, "words").split_whitespace();
+    let words: Vec<&str> = words.collect(rt.alloc()).expect(rt, "words");
+    let status = parts.next().expect(rt, "a status");
+    let status = status.parse::<u8>().expect(rt, "a status");
+    let out = line(rt, parts.next());
+    let err = line(rt, parts.next());
+    expect(rt, &words, &M_CLASS, Scene::SOUND, (status, &out, &err));
 }
 
 #[test]
-fn words_and_budgets(rt: HostRuntime) -> Result<(), Fail> {
+fn words_and_budgets(rt: HostRuntime) {
     for row in WORDS.lines() {
-        expect_line(&rt, row)?;
+        expect_line(&rt, row);
     }
-    Ok(())
 }
 
 // A class file that is refused.
-fn expect_fault<R: AllocGlobal + Abort>(rt: &R, class: &[u8], fault: &str) -> Result<(), Fail> {
-    let line = format!(in rt.alloc(); "nrmi: class M.class {fault}\n")?;
+fn expect_fault<R: AllocGlobal + Abort>(rt: &R, class: &[u8], fault: &str) {
+    let line = format!(in rt.alloc(); "nrmi: class M.class {fault}\n").expect(rt, "a line");
     expect(
         rt,
         &["run", "d", "M", "4"],
@@ -141,57 +139,57 @@ fn expect_fault<R: AllocGlobal + Abort>(rt: &R, class: &[u8], fault: &str) -> Re
     )
 }
 
-fn expect_change<R: AllocGlobal + Abort>(rt: &R, row: &str) -> Result<(), Fail> {
+fn expect_change<R: AllocGlobal + Abort>(rt: &R, row: &str) {
     let mut parts = row.split('|');
-    let at = number(parts.next())?;
-    let byte = number(parts.next())?;
-    let fault = parts.next().ok_or("a fault")?;
+    let at = number(rt, parts.next());
+    let byte = number(rt, parts.next());
+    let fault = parts.next().expect(rt, "a fault");
     let mut class = M_CLASS;
     assert!(rt; at < class.len() && byte < 256);
     class[at] = byte as u8;
     expect_fault(rt, &class, fault)
 }
 
-fn expect_length<R: AllocGlobal + Abort>(rt: &R, row: &str) -> Result<(), Fail> {
+fn expect_length<R: AllocGlobal + Abort>(rt: &R, row: &str) {
     let mut parts = row.split('|');
-    let len = number(parts.next())?;
-    let fault = parts.next().ok_or("a fault")?;
+    let len = number(rt, parts.next());
+    let fault = parts.next().expect(rt, "a fault");
     assert!(rt; len <= M_CLASS.len());
     expect_fault(rt, &M_CLASS[..len], fault)
 }
 
 #[test]
-fn files_of_another_form(rt: HostRuntime) -> Result<(), Fail> {
+fn files_of_another_form(rt: HostRuntime) {
     for row in CHANGES.lines() {
-        expect_change(&rt, row)?;
+        expect_change(&rt, row);
     }
     for row in LENGTHS.lines() {
-        expect_length(&rt, row)?;
+        expect_length(&rt, row);
     }
-    Ok(())
 }
 
 #[test]
-fn long_files_and_words(rt: HostRuntime) -> Result<(), Fail> {
+fn long_files_and_words(rt: HostRuntime) {
     let alloc = rt.alloc();
-    let mut class = M_CLASS.to_vec(alloc)?;
-    class.push(0)?;
-    expect_fault(&rt, &class, "Trailing 105")?;
-    class.resize(1_048_576, 0)?;
-    expect_fault(&rt, &class, "Trailing 105")?;
-    class.push(0)?;
+    let mut class = M_CLASS.to_vec(alloc).expect(&rt, "a class");
+    class.push(0).expect(&rt, "a byte");
+    expect_fault(&rt, &class, "Trailing 105");
+    class.resize(1_048_576, 0).expect(&rt, "bytes");
+    expect_fault(&rt, &class, "Trailing 105");
+    class.push(0).expect(&rt, "a byte");
     let too_long = (4, "", "nrmi: class M.class FileTooLong\n");
-    expect(&rt, &["run", "d", "M", "4"], &class, Scene::SOUND, too_long)?;
-    let name = "M".repeat(alloc, 255)?;
-    let no_class = format!(in alloc; "nrmi: link NoClass {name}\n")?;
+    expect(&rt, &["run", "d", "M", "4"], &class, Scene::SOUND, too_long);
+    let name = "M".repeat(alloc, 255).expect(&rt, "a name");
+    let no_class = format!(in alloc; "nrmi: link NoClass {name}\n");
+    let no_class = no_class.expect(&rt, "a line");
     expect(
         &rt,
         &["run", "d", &name, "4"],
         &M_CLASS,
         Scene::SOUND,
         (5, "", &no_class),
-    )?;
-    let name = "M".repeat(alloc, 256)?;
+    );
+    let name = "M".repeat(alloc, 256).expect(&rt, "a name");
     let words = (2, "", "nrmi: words\n");
     expect(
         &rt,
@@ -199,16 +197,16 @@ fn long_files_and_words(rt: HostRuntime) -> Result<(), Fail> {
         &M_CLASS,
         Scene::SOUND,
         words,
-    )?;
+    );
     expect(&rt, &["run", "", "M", "4"], &M_CLASS, Scene::SOUND, words)
 }
 
 #[test]
-fn many_ints(rt: HostRuntime) -> Result<(), Fail> {
-    let mut words = vec![in rt.alloc(); "run", "d", "M", "4"]?;
-    words.resize(1004, "7")?;
-    expect(&rt, &words, &M_CLASS, Scene::SOUND, (0, "result 5\n", ""))?;
-    words.push("7")?;
+fn many_ints(rt: HostRuntime) {
+    let mut words = vec![in rt.alloc(); "run", "d", "M", "4"].expect(&rt, "words");
+    words.resize(1004, "7").expect(&rt, "words");
+    expect(&rt, &words, &M_CLASS, Scene::SOUND, (0, "result 5\n", ""));
+    words.push("7").expect(&rt, "a word");
     expect(
         &rt,
         &words,
@@ -219,28 +217,22 @@ fn many_ints(rt: HostRuntime) -> Result<(), Fail> {
 }
 
 // The line over some files of the folder `d`, where nothing is printed.
-fn expect_files<R: AllocGlobal + Abort>(
-    rt: &R,
-    files: &[(&str, &[u8])],
-    status: u8,
-    line: &str,
-) -> Result<(), Fail> {
-    let found = run_over(rt, &["run", "d", "M", "4"], files, Scene::SOUND)?;
+fn expect_files<R: AllocGlobal + Abort>(rt: &R, files: &[(&str, &[u8])], status: u8, line: &str) {
+    let found = run_over(rt, &["run", "d", "M", "4"], files, Scene::SOUND);
     assert_eq!(rt; found.status, status, "{line}");
     assert_eq!(rt; found.err.as_slice(), line.as_bytes(), "{line}");
     assert!(rt; found.out.is_empty(), "{line}");
-    Ok(())
 }
 
 #[test]
-fn folders(rt: HostRuntime) -> Result<(), Fail> {
+fn folders(rt: HostRuntime) {
     let class = M_CLASS.as_slice();
-    expect_files(&rt, &[], 5, "nrmi: link NoClass M\n")?;
-    expect_files(&rt, &[("M.classes", class)], 5, "nrmi: link NoClass M\n")?;
+    expect_files(&rt, &[], 5, "nrmi: link NoClass M\n");
+    expect_files(&rt, &[("M.classes", class)], 5, "nrmi: link NoClass M\n");
     let nested = "nrmi: class b/N.class OutOfThinForm 1\n";
-    expect_files(&rt, &[("b/N.class", class), ("M.class", class)], 4, nested)?;
+    expect_files(&rt, &[("b/N.class", class), ("M.class", class)], 4, nested);
     let empty = "nrmi: class M.class Short 0\n";
-    expect_files(&rt, &[("a.class", class), ("M.class", &[])], 4, empty)?;
+    expect_files(&rt, &[("a.class", class), ("M.class", &[])], 4, empty);
     let first = "nrmi: class M.class OutOfThinForm 1\n";
     let mut other = M_CLASS;
     other[62] = 2;
@@ -249,28 +241,30 @@ fn folders(rt: HostRuntime) -> Result<(), Fail> {
         ("N.class", class),
         ("O.class", class),
     ];
-    expect_files(&rt, &files, 4, first)?;
+    expect_files(&rt, &files, 4, first);
     let later = "nrmi: class N.class Short 0\n";
     let files = [("M.class", other.as_slice()), ("N.class", [].as_slice())];
-    expect_files(&rt, &files, 4, later)?;
+    expect_files(&rt, &files, 4, later);
     let third = "nrmi: class O.class Short 0\n";
     let files = [
         ("M.class", class),
         ("N.class", class),
         ("O.class", [].as_slice()),
     ];
-    expect_files(&rt, &files, 4, third)?;
+    expect_files(&rt, &files, 4, third);
     let spelled = "nrmi: class \\xC3\\xA4\\x20\\.class Short 0\n";
-    expect_files(&rt, &[("ä \\.class", &[1])], 4, spelled)?;
-    let mut reserved = class[..12].to_vec(rt.alloc())?;
-    reserved.extend_from_slice(b"\x06java/X".as_slice())?;
-    reserved.extend_from_slice(&class[14..])?;
+    expect_files(&rt, &[("ä \\.class", &[1])], 4, spelled);
+    let mut reserved = class[..12].to_vec(rt.alloc()).expect(&rt, "bytes");
+    let name = b"\x06java/X".as_slice();
+    reserved.extend_from_slice(name).expect(&rt, "a name");
+    let rest = &class[14..];
+    reserved.extend_from_slice(rest).expect(&rt, "the rest");
     let line = "nrmi: link ReservedName java/X\n";
     expect_files(&rt, &[("M.class", &reserved)], 5, line)
 }
 
 #[test]
-fn calls_that_fail(rt: HostRuntime) -> Result<(), Fail> {
+fn calls_that_fail(rt: HostRuntime) {
     let words = ["run", "d", "M", "4"];
     let folder = (3, "", "nrmi: folder\n");
     expect(
@@ -282,7 +276,7 @@ fn calls_that_fail(rt: HostRuntime) -> Result<(), Fail> {
             ..Scene::SOUND
         },
         folder,
-    )?;
+    );
     expect(
         &rt,
         &words,
@@ -292,21 +286,21 @@ fn calls_that_fail(rt: HostRuntime) -> Result<(), Fail> {
             ..Scene::SOUND
         },
         folder,
-    )?;
+    );
     let out = Scene {
         out: &[1],
         ..Scene::SOUND
     };
-    expect(&rt, &words, &M_CLASS, out, (11, "", "nrmi: sink\n"))?;
+    expect(&rt, &words, &M_CLASS, out, (11, "", "nrmi: sink\n"));
     expect(
         &rt,
         &words,
         &M_CLASS,
         Scene { err: &[1], ..out },
         (11, "", ""),
-    )?;
+    );
     let words = ["run", "d", "M", "3"];
-    expect(&rt, &words, &M_CLASS, out, (9, "", "nrmi: budget 3\n"))?;
+    expect(&rt, &words, &M_CLASS, out, (9, "", "nrmi: budget 3\n"));
     expect(
         &rt,
         &words,

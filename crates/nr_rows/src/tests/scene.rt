@@ -3,7 +3,6 @@ use nr_cli::nrmi;
 use nr_outside::{MemFolder, MemSink, MemWire, are_each_once};
 use std::alloc::Global;
 use std::process::Abort;
-use std::test::Fail;
 
 /// A class whose `main` returns 2 + 3 in four steps.
 pub const M_CLASS: [u8; 105] = [
@@ -45,25 +44,24 @@ pub fn run_over<R: AllocGlobal + Abort>(
     words: &[&str],
     files: &[(&str, &[u8])],
     scene: Scene<'_>,
-) -> Result<Outcome, Fail> {
+) -> Outcome {
     let alloc: Global = rt.alloc();
     let mut listed = Vec::new(alloc);
     for (path, bytes) in files {
-        listed.push((
-            String::from_str(alloc, "d")?,
-            String::from_str(alloc, path)?,
-            bytes.to_vec(alloc)?,
-        ))?;
+        let folder = String::from_str(alloc, "d").expect(rt, "a folder");
+        let path = String::from_str(alloc, path).expect(rt, "a path");
+        let bytes = bytes.to_vec(alloc).expect(rt, "a file");
+        listed.push((folder, path, bytes)).expect(rt, "a list");
     }
     assert!(rt; are_each_once(&listed));
-    let mut folder = MemFolder::new(listed, scene.folder.to_vec(alloc)?);
+    let mut folder = MemFolder::new(listed, scene.folder.to_vec(alloc).expect(rt, "calls"));
     let mut wire = MemWire::new(alloc, Vec::new(alloc), Vec::new(alloc));
-    let mut out = MemSink::new(alloc, scene.out.to_vec(alloc)?);
-    let mut err = MemSink::new(alloc, scene.err.to_vec(alloc)?);
+    let mut out = MemSink::new(alloc, scene.out.to_vec(alloc).expect(rt, "calls"));
+    let mut err = MemSink::new(alloc, scene.err.to_vec(alloc).expect(rt, "calls"));
     let status = nrmi(alloc, words, &mut folder, &mut wire, &mut out, &mut err);
-    Ok(Outcome {
+    Outcome {
         status,
-        out: out.bytes().to_vec(alloc)?,
-        err: err.bytes().to_vec(alloc)?,
-    })
+        out: out.bytes().to_vec(alloc).expect(rt, "the output"),
+        err: err.bytes().to_vec(alloc).expect(rt, "the line"),
+    }
 }
