@@ -10,9 +10,9 @@ pub enum LoadFault {
     Read(ClassFault),
     /// The code of the method at this place, from 0, is refused.
     Code(u16, CodeFault),
-    /// The class files aren't of the form that runs so far, one file with one class of the form, and
-    /// this is the first that isn't. The number is that of the first method that isn't, or the number
-    /// of methods.
+    /// The class files aren't of the form that runs so far, one file with one class of the form,
+    /// and this is the first that isn't. The number is that of the first method that isn't, or the
+    /// number of methods.
     OutOfThinForm(u32),
     /// The file has more than 1,048,576 bytes.
     FileTooLong,

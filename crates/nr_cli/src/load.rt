@@ -185,8 +185,8 @@ fn load_next<F: Folder>(
     }
 }
 
-/// Reads the class files at these paths, in order. The error is the end of the program, by the first
-/// that is refused.
+/// Reads the class files at these paths, in order. The error is the end of the program, by the
+/// first that is refused.
 pub fn load_all<F: Folder>(
     alloc: Global,
     folder: &mut F,
@@ -195,10 +195,10 @@ pub fn load_all<F: Folder>(
 ) -> Result<Loaded, End>
     ensures files { F.Tells → F.files folder.new ≡ F.files folder.old }
     ensures ok { F.Tells → IfOk result (λ l. IsLoaded
-        (all_loaded dir.now (F.files folder.old) (map string_bytes paths.now)) l.classes.items l.len) }
+        (all_loaded dir.now (F.files folder.old) (map string_bytes paths.now))
+        l.classes.items l.len) }
     ensures err { F.Tells → IfErr result (λ end. (end ≡ End.Memory) ⊎ (end ≡ End.Folder)
-        ⊎ (all_loaded dir.now (F.files folder.old) (map string_bytes paths.now)
-        ≡ Err end)) }
+        ⊎ (all_loaded dir.now (F.files folder.old) (map string_bytes paths.now) ≡ Err end)) }
     ensures words { result ≡ Err End.Words → ⊥ }
     ensures faults { F.faults folder.old ≤ F.faults folder.new }
     ensures cause { (F.Tells

@@ -47,8 +47,8 @@ fn step(stack: &mut Vec<i32>, op: u8) -> Result<(), AllocError>
     Ok(())
 }
 
-/// How a run of at most `budget` steps ends, each instruction being one. `max` is the greatest height
-/// of the stack.
+/// How a run of at most `budget` steps ends, each instruction being one. `max` is the greatest
+/// height of the stack.
 pub fn run(alloc: Global, max: u16, code: &[u8], budget: u32) -> Result<Outcome, AllocError>
     requires { fits max 0 code.now ≡ true }
     ensures { IfOk result (λ outcome. run_of code.now budget [] ≡ Some outcome) }

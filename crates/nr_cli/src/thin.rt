@@ -1,5 +1,5 @@
-//! Classes of the one form that runs so far: one method `main`, `([I)I`, of int constants, additions
-//! and a return.
+//! Classes of the one form that runs so far: one method `main`, `([I)I`, of int constants,
+//! additions and a return.
 mod code;
 mod form;
 mod names;

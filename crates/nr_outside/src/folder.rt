@@ -18,9 +18,9 @@ pub use real::RealFolder;
 
 /// Where class files are listed and read.
 ///
-/// A folder may tell its files, which no call changes. It counts its faults: reads of a path that its
-/// told files lack, and all others. A count rises where a call fails, and stands still otherwise; one
-/// that is 2^64 - 1 stays there and counts as risen.
+/// A folder may tell its files, which no call changes. It counts its faults: reads of a path that
+/// its told files lack, and all others. A count rises where a call fails, and stands still
+/// otherwise; one that is 2^64 - 1 stays there and counts as risen.
 pub trait Folder {
     /// It tells its files.
     ghost Tells: { Type 0 };

@@ -1,5 +1,5 @@
-//! The outside of the program: a folder of class files, a wire to peers and a sink for text, each as a
-//! trait with a contract, with an implementation in memory and one over the system.
+//! The outside of the program: a folder of class files, a wire to peers and a sink for text, each
+//! as a trait with a contract, with an implementation in memory and one over the system.
 #![tactic(auto)]
 
 mod counted;

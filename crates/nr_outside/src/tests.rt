@@ -1,3 +1,3 @@
-// What no clause says: that calls succeed, which calls fail, and what the system does.
+// What no clause says: that calls succeed, and what the system does.
 mod memory;
 mod system;

@@ -17,10 +17,10 @@ pub use tcp::TcpWire;
 
 /// A way to peers.
 ///
-/// A wire may tell its addresses, its connections and the order of its events. It counts its faults,
-/// those of `listen`, `accept` and `open` apart from those of `send` and `receive`, and the ends that
-/// came. A count rises where a call fails or an end comes, and stands still otherwise; one that is
-/// 2^64 - 1 stays there and counts as risen.
+/// A wire may tell its addresses, its connections and the order of its events. It counts its
+/// faults, those of `listen`, `accept` and `open` apart from those of `send` and `receive`, and the
+/// ends that came. A count rises where a call fails or an end comes, and stands still otherwise;
+/// one that is 2^64 - 1 stays there and counts as risen.
 pub trait Wire {
     /// It tells its addresses and its connections.
     ghost Tells: { Type 0 };
@@ -28,9 +28,9 @@ pub trait Wire {
     /// It tells the order of its events.
     ghost TellsOrder: { Type 0 };
 
-    /// Its peers keep to `says`: until a call on the open connection is refused, what was given and is
-    /// to come on it is a text that may be said to what was sent, and a receive gives a byte where bytes
-    /// are to come.
+    /// Its peers keep to `says`: until a call on the open connection is refused, what was given and
+    /// is to come on it is a text that may be said to what was sent, and a receive gives a byte
+    /// where bytes are to come.
     ghost Honest: { Type 0 };
 
     /// What may be said to what was sent.

@@ -9,7 +9,8 @@ use std::io::{ErrorKind, Write};
 
 // Writes the whole piece. A write that takes nothing of it is a fault.
 pub fn write_whole<W: Write>(writer: &mut W, piece: &[u8], faults: &mut u64) -> Result<(), Fault>
-    ensures bytes { OnOk result (Appends (W.contents writer.old) (W.contents writer.new) piece.now) }
+    ensures bytes { OnOk result
+        (Appends (W.contents writer.old) (W.contents writer.new) piece.now) }
     ensures cause { HasCause faults.old faults.new result }
 {
     let mut rest = piece;

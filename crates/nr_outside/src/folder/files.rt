@@ -18,7 +18,8 @@ pub fn class_paths(
     files: &[(String, String, Vec<u8>)],
     dir: &str,
 ) -> Result<Vec<String>, AllocError>
-    ensures { IfOk result (λ names. map string_bytes names.items ≡ class_paths dir.now (map told_of files.now)) }
+    ensures { IfOk result
+        (λ names. map string_bytes names.items ≡ class_paths dir.now (map told_of files.now)) }
 {
     let mut paths = Vec::new(alloc);
     'files: for file in files {

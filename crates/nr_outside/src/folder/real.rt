@@ -13,8 +13,8 @@ use std::{fs, io};
 
 /// A folder of the file system.
 ///
-/// `names` goes down at most 64 folders, DIR itself among them; a folder deeper is a fault, and so is a name
-/// that isn't UTF-8. It follows no symbolic link to a folder.
+/// `names` goes down at most 64 folders, DIR itself among them; a folder deeper is a fault, and so
+/// is a name that isn't UTF-8. It follows no symbolic link to a folder.
 #[derive(Drop)]
 pub struct RealFolder<R: Files + AllocGlobal + Clone + Drop> {
     rt: R,
@@ -24,7 +24,8 @@ pub struct RealFolder<R: Files + AllocGlobal + Clone + Drop> {
 // The first `max` bytes of a reader, or all where it has fewer.
 fn read_up_to<F: Read>(alloc: Global, file: &mut F, max: usize) -> io::Result<Vec<u8>>
     ensures bound { IfOk result (λ bytes. vec_len bytes ≤ max) }
-    ensures front { IfOk result (λ bytes. Consumes (F.remaining file.old) (F.remaining file.new) bytes.items) }
+    ensures front { IfOk result
+        (λ bytes. Consumes (F.remaining file.old) (F.remaining file.new) bytes.items) }
     ensures whole { IfOk result (λ bytes. vec_len bytes < max → IsAtEnd (F.remaining file.new)) }
 {
     let mut bytes = Vec::new(alloc);

@@ -44,7 +44,8 @@ fn add_folder(
 // Adds the path of the file `name` in `folder`, if it is a class file.
 fn add_file(alloc: Global, folder: &Pending, name: &str, paths: &mut Vec<String>) -> io::Result<()>
     requires { All (λ path. IsTrue (is_class_path (string_bytes path))) paths.old.items }
-    ensures { OnOk result (All (λ path. IsTrue (is_class_path (string_bytes path))) paths.new.items) }
+    ensures { OnOk result
+        (All (λ path. IsTrue (is_class_path (string_bytes path))) paths.new.items) }
 {
     let front = folder.front.as_str();
     let path = format!(in alloc; "{front}{name}")?;
@@ -63,7 +64,8 @@ fn list<R: Files + AllocGlobal + Clone + Drop>(
     pending: &mut Vec<Pending>,
 ) -> io::Result<()>
     requires { All (λ path. IsTrue (is_class_path (string_bytes path))) paths.old.items }
-    ensures { OnOk result (All (λ path. IsTrue (is_class_path (string_bytes path))) paths.new.items) }
+    ensures { OnOk result
+        (All (λ path. IsTrue (is_class_path (string_bytes path))) paths.new.items) }
 {
     'entries: for entry in fs::read_dir(rt, &folder.dir)? {
         let entry = entry?;
@@ -82,7 +84,8 @@ pub fn walk<R: Files + AllocGlobal + Clone + Drop>(
     alloc: Global,
     dir: &str,
 ) -> io::Result<Vec<String>>
-    ensures { IfOk result (λ paths. All (λ path. IsTrue (is_class_path (string_bytes path))) paths.items) }
+    ensures { IfOk result
+        (λ paths. All (λ path. IsTrue (is_class_path (string_bytes path))) paths.items) }
 {
     let mut paths = Vec::new(alloc);
     let mut pending = Vec::new(alloc);

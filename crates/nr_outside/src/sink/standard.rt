@@ -48,7 +48,8 @@ impl<W: Write + Drop> Sink for StdSink<W> {
 
     fn write(&mut self, piece: &[u8]) -> Result<(), Fault>
         ensures cause { HasCause self.old.faults self.new.faults result }
-        ensures written { OnOk result (Appends (W.contents (writer_of self.old)) (W.contents (writer_of self.new)) piece.now) }
+        ensures written { OnOk result (Appends (W.contents (writer_of self.old))
+            (W.contents (writer_of self.new)) piece.now) }
     {
         match write_whole(&mut self.inner, piece, &mut self.faults) {
             Ok(()) => flush(&mut self.inner, &mut self.faults),

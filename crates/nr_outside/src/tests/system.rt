@@ -2,103 +2,83 @@
 ghost use Rattle.std.specs.Prelude.{◌≡◌, true};
 
 use crate::{Fault, Folder, RealFolder, Sink, StdSink, TcpWire, Wire};
-use std::alloc::{AllocError, Global};
+use std::alloc::Global;
+use std::io;
 use std::io::{ErrorKind, Write};
 use std::process::Command;
-use std::rt::Files;
 use std::test::Fail;
-use std::{fs, io};
 
-// A folder for this test alone, with nothing in it.
-fn empty_folder(rt: &(impl Files + Alloc + Clone + Drop), dir: &str) -> Result<(), Fail> {
-    match fs::remove_dir_all(rt, dir) {
-        Ok(()) => {}
-        Err(error) if error.kind() == ErrorKind::NotFound => {}
-        Err(error) => return Err(Fail::from(error)),
-    }
-    fs::create_dir_all(rt, dir)?;
-    Ok(())
+// Makes `tree`, with class files in two folders and files that are none; `deep`, with a class file in
+// the last of 64 folders; `deeper`, with one there and one in a 65th; and `named`, with a name that
+// isn't UTF-8.
+const MAKE: &str = "\
+rm -rf folders && mkdir -p folders/tree/in/side.class folders/named && cd folders
+printf abc > tree/M.class
+printf xy > tree/in/side.class/N.class
+printf z > tree/in/other
+inner=f; for i in $(seq 62); do inner=$inner/f; done
+mkdir -p deep/$inner deeper/$inner/f
+touch deep/$inner/D.class deeper/$inner/D.class deeper/$inner/f/D.class
+touch \"$(printf 'named/M\\377.class')\"
+";
+
+fn run(rt: &HostRuntime, alloc: Global, script: &str) -> Result<bool, Fail> {
+    let mut shell = Command::new(alloc, "sh")?;
+    Ok(shell.arg("-c")?.arg(script)?.status(rt)?.success())
 }
 
-// `depth` folders in one another below `dir`, with a class file in the last.
-fn nest(rt: &impl Files, alloc: Global, dir: &str, depth: u8) -> Result<(), Fail> {
-    let mut inner = String::from_str(alloc, dir)?;
-    for _ in 0..depth {
-        inner.push_str("/f")?;
+// How many class files a folder lists, and how many bytes their paths have.
+fn count(
+    alloc: Global,
+    folder: &mut RealFolder<HostRuntime>,
+    dir: &str,
+) -> Result<(usize, usize), Fault> {
+    let names = folder.names(alloc, dir)?;
+    let mut len = 0usize;
+    for name in &names {
+        len = len.saturating_add(name.len());
     }
-    fs::create_dir_all(rt, &inner)?;
-    inner.push_str("/D.class")?;
-    fs::write(rt, &inner, b"d".as_slice())?;
-    Ok(())
+    Ok((names.len(), len))
 }
 
 #[test]
-fn a_folder_of_the_system(rt: HostRuntime) -> Result<(), Fail> {
+fn folders_of_the_system(rt: HostRuntime) -> Result<(), Fail> {
     let alloc = rt.alloc();
     let mut folder = RealFolder::new(rt.clone()?);
-    empty_folder(&rt, "folder_test")?;
-    fs::create_dir_all(&rt, "folder_test/in/side.class")?;
-    fs::write(&rt, "folder_test/M.class", b"abc".as_slice())?;
-    fs::write(&rt, "folder_test/in/side.class/N.class", b"xy".as_slice())?;
-    fs::write(&rt, "folder_test/in/other", b"z".as_slice())?;
-    let mut names = folder.names(alloc, "folder_test")?;
-    names.sort()?;
-    assert_eq!(rt; names.len(), 2);
-    assert_eq!(rt; names[0].as_str(), "M.class");
-    assert_eq!(rt; names[1].as_str(), "in/side.class/N.class");
-    for (path, max, want) in [
-        ("M.class", 9, b"abc".as_slice()),
-        ("M.class", 3, b"abc".as_slice()),
-        ("M.class", 2, b"ab".as_slice()),
-        ("M.class", 0, b"".as_slice()),
-        ("in/side.class/N.class", usize::MAX, b"xy".as_slice()),
+    assert!(rt; run(&rt, alloc, MAKE)?);
+    for name in folder.names(alloc, "folders/tree")? {
+        assert!(rt;
+            matches!(name.as_str(), "M.class" | "in/side.class/N.class"),
+            "{name}"
+        );
+    }
+    for (dir, want) in [
+        ("folders/tree", Ok((2, 28))),
+        ("folders/deep", Ok((1, 133))),
+        ("folders/deeper", Err(Fault::Failed)),
+        ("folders/deeper/f", Ok((2, 264))),
+        ("folders/named", Err(Fault::Failed)),
+        ("", Err(Fault::Failed)),
+        ("folders/none", Err(Fault::Failed)),
+        ("folders/tree/M.class", Err(Fault::Failed)),
     ] {
-        let bytes = folder.read(alloc, "folder_test", path, max)?;
-        assert_eq!(rt; bytes.as_slice(), want, "{path}, {max}");
+        assert_eq!(rt; count(alloc, &mut folder, dir), want, "{dir}");
+    }
+    for (path, max, want) in [
+        ("M.class", 9, "abc"),
+        ("M.class", 3, "abc"),
+        ("M.class", 2, "ab"),
+        ("M.class", 0, ""),
+        ("in/side.class/N.class", usize::MAX, "xy"),
+    ] {
+        let bytes = folder.read(alloc, "folders/tree", path, max)?;
+        assert_eq!(rt; bytes.as_slice(), want.as_bytes(), "{path}, {max}");
     }
     for path in ["N.class", "in", ""] {
-        assert_eq!(rt;
-            folder.read(alloc, "folder_test", path, 9).err(),
-            Some(Fault::Failed),
-            "{path}"
-        );
+        let fault = folder.read(alloc, "folders/tree", path, 9).err();
+        assert_eq!(rt; fault, Some(Fault::Failed), "{path}");
     }
-    for dir in ["", "folder_test/none", "folder_test/M.class"] {
-        assert_eq!(rt;
-            folder.names(alloc, dir).err(),
-            Some(Fault::Failed),
-            "{dir}"
-        );
-    }
-    fs::remove_dir_all(&rt, "folder_test")?;
-    Ok(())
-}
-
-#[test]
-fn folders_that_are_faults(rt: HostRuntime) -> Result<(), Fail> {
-    let alloc = rt.alloc();
-    let mut folder = RealFolder::new(rt.clone()?);
-    empty_folder(&rt, "depth_test")?;
-    nest(&rt, alloc, "depth_test", 63)?;
-    let names = folder.names(alloc, "depth_test")?;
-    assert_eq!(rt; names.len(), 1);
-    assert_eq!(rt; names[0].len(), 63 * 2 + 7);
-    nest(&rt, alloc, "depth_test", 64)?;
-    assert_eq!(rt;
-        folder.names(alloc, "depth_test").err(),
-        Some(Fault::Failed)
-    );
-    assert_eq!(rt; folder.names(alloc, "depth_test/f")?.len(), 2);
-    empty_folder(&rt, "name_test")?;
-    let script = "touch \"name_test/$(printf 'M\\377.class')\"";
-    let status = Command::new(alloc, "sh")?
-        .arg("-c")?
-        .arg(script)?
-        .status(&rt)?;
-    assert!(rt; status.success());
-    assert_eq!(rt; folder.names(alloc, "name_test").err(), Some(Fault::Failed));
-    fs::remove_dir_all(&rt, "depth_test")?;
-    fs::remove_dir_all(&rt, "name_test")?;
+    assert!(rt; run(&rt, alloc, "rm -r folders")?);
     Ok(())
 }
 
@@ -159,66 +139,59 @@ fn a_pair_over_tcp(rt: HostRuntime) -> Result<(), Fail> {
     Ok(())
 }
 
-// A writer that takes a byte of each piece, and at some calls does otherwise.
+// A writer that takes a byte of each piece. One of its calls, counted from 1, ends otherwise: by the
+// error, or by taking nothing.
 #[derive(Drop)]
 struct Halting {
-    taken: Vec<u8>,
     calls: u8,
-    kind: Option<ErrorKind>,
-    flushes: u8,
+    halt: u8,
+    error: Option<ErrorKind>,
+}
+
+impl Halting {
+    // Counts a call, and gives how it ends.
+    fn next(&mut self) -> io::Result<usize> {
+        self.calls = self.calls.saturating_add(1);
+        if self.calls != self.halt {
+            return Ok(1);
+        }
+        match self.error {
+            Some(kind) => Err(io::Error::from(kind)),
+            None => Ok(0),
+        }
+    }
 }
 
 impl Write for Halting {
     fn write(&mut self, piece: &[u8]) -> io::Result<usize> {
-        self.calls = self.calls.saturating_add(1);
-        if self.calls == 2 {
-            return Err(io::Error::from(ErrorKind::Interrupted));
-        }
-        if self.calls == 4 {
-            return match self.kind {
-                Some(kind) => Err(io::Error::from(kind)),
-                None => Ok(0),
-            };
-        }
-        match piece.first() {
-            Some(byte) => {
-                self.taken.push(*byte)?;
-                Ok(1)
-            }
-            None => Ok(0),
-        }
+        Ok(self.next()?.min(piece.len()))
     }
 
     fn flush(&mut self) -> io::Result<()> {
-        self.flushes = self.flushes.saturating_add(1);
-        if self.flushes == 1 {
-            return Err(io::Error::from(ErrorKind::Interrupted));
-        }
+        self.next()?;
         Ok(())
     }
 }
 
-fn sink_over(alloc: Global, kind: Option<ErrorKind>) -> Result<StdSink<Halting>, AllocError> {
-    Ok(StdSink::new(Halting {
-        taken: Vec::new(alloc),
-        calls: 0,
-        kind,
-        flushes: 0,
-    }))
-}
-
+// The sink writes byte after byte, then flushes, and makes a call again that was interrupted.
 #[test]
 fn a_sink_over_a_writer(rt: HostRuntime) -> Result<(), Fail> {
-    let alloc = rt.alloc();
-    for (kind, want) in [
-        (None, Err(Fault::Failed)),
-        (Some(ErrorKind::BrokenPipe), Err(Fault::Failed)),
-        (Some(ErrorKind::OutOfMemory), Err(Fault::NoMemory)),
-        (Some(ErrorKind::Interrupted), Ok(())),
+    for (halt, error, want) in [
+        (0, None, Ok(())),
+        (1, Some(ErrorKind::Interrupted), Ok(())),
+        (2, None, Err(Fault::Failed)),
+        (2, Some(ErrorKind::BrokenPipe), Err(Fault::Failed)),
+        (2, Some(ErrorKind::OutOfMemory), Err(Fault::NoMemory)),
+        (3, Some(ErrorKind::Interrupted), Ok(())),
+        (3, Some(ErrorKind::BrokenPipe), Err(Fault::Failed)),
+        (4, Some(ErrorKind::BrokenPipe), Ok(())),
     ] {
-        let mut sink = sink_over(alloc, kind)?;
-        assert_eq!(rt; sink.write(b"a".as_slice()), Ok(()));
-        assert_eq!(rt; sink.write(b"bcd".as_slice()), want);
+        let mut sink = StdSink::new(Halting {
+            calls: 0,
+            halt,
+            error,
+        });
+        assert_eq!(rt; sink.write(b"ab".as_slice()), want, "{halt}");
     }
     let mut out = StdSink::new(rt.stdout());
     assert_eq!(rt; out.write(b"a line\n".as_slice()), Ok(()));

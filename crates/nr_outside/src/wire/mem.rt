@@ -15,9 +15,9 @@ use std::mem;
 
 /// A wire that gives scripts, and tells all that it tells of.
 ///
-/// An `open` or `accept` that isn't to fail takes the next script, and is `Failed` where none is left.
-/// A `receive` gives bytes of one piece. It counts its calls of `listen`, `accept`, `open`, `send` and
-/// `receive`. Its peers may say anything.
+/// An `open` or `accept` that isn't to fail takes the next script, and is `Failed` where none is
+/// left. A `receive` gives bytes of one piece. It counts its calls of `listen`, `accept`, `open`,
+/// `send` and `receive`. Its peers may say anything.
 #[derive(Drop)]
 pub struct MemWire {
     alloc: Global,
@@ -42,9 +42,9 @@ impl MemWire {
     ghost use Rattle.nr_outside.specs.Link.{script_pieces};
     ghost use Rattle.nr_outside.specs.MemWire.{mem_wire_opened, mem_wire_addresses, mem_wire_past, mem_wire_connections, mem_wire_events, mem_wire_pieces, mem_wire_scripts, mem_wire_fails};
 
-    /// A wire with nothing open, whose connections give these scripts in turn, each the pieces that it
-    /// gives; a piece with no bytes is skipped. `fails` has the numbers, from 1, of the calls that are
-    /// to fail.
+    /// A wire with nothing open, whose connections give these scripts in turn, each the pieces that
+    /// it gives; a piece with no bytes is skipped. `fails` has the numbers, from 1, of the calls
+    /// that are to fail.
     pub fn new(alloc: Global, scripts: Vec<Vec<Vec<u8>>>, fails: Vec<u64>) -> Self
         ensures opened { mem_wire_opened result ≡ false }
         ensures addresses { mem_wire_addresses result ≡ [] }
@@ -311,7 +311,8 @@ impl Wire for MemWire {
         ensures addresses { mem_wire_addresses self.new ≡ mem_wire_addresses self.old }
         ensures past { mem_wire_past self.new ≡ mem_wire_past self.old }
         ensures sent { self.new.live.sent.items ≡ self.old.live.sent.items }
-        ensures events { ReceiveIsTold (mem_wire_events self.old) (mem_wire_events self.new) result }
+        ensures events { ReceiveIsTold (mem_wire_events self.old)
+            (mem_wire_events self.new) result }
         ensures cause { HasCause self.old.stream_faults self.new.stream_faults result }
         ensures open_faults { self.new.open_faults ≡ self.old.open_faults }
         ensures some { link_to_come self.old.live ≢ [] → IfOk result (λ n. 0 < n) }
