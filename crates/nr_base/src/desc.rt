@@ -76,7 +76,7 @@ fn whole_method(alloc: Global, bytes: &[u8]) -> Result<MethodDesc, DescFault>
     }
     let count = desc.slots();
     if count > MethodDesc::MAX_SLOTS {
-        return Err(DescFault::TooManyArgs(count));
+        return Err(DescFault::TooManyArgs(count as u64));
     }
     Ok(desc)
 }

@@ -16,7 +16,7 @@ pub enum DescFault {
     /// The letter at this offset is that of float or double, which the project leaves out.
     FloatDesc(u32),
     /// The parameters take so many slots, which is more than 254.
-    TooManyArgs(usize),
+    TooManyArgs(u64),
     /// Memory ran out.
     NoMemory,
 }
