@@ -12,12 +12,15 @@ ghost use Rattle.nr_heap.specs.Pairs.{PairedStates};
 
 /// Promises that an outcome doesn't depend on the names that new objects take: from paired states with
 /// heaps of one size, outcomes within one budget have the same steps and the same fate, and leave paired
-/// states; and where there is an outcome from one state, there is one from the other. The same holds of
-/// the outcomes of two calls. It does nothing.
+/// states, again with heaps of one size; and where there is an outcome from one state, there is one from
+/// the other. The same holds of the outcomes of two calls. It does nothing.
 pub fn outcomes_keep_pairs()
     ensures kept { (p : ProgramTables) (pairs : List (ℕ × ℕ)) (s t s' t' : State) (budget n k : ℕ) (f g : Fate)
         → PairedStates pairs s t → cells s.heap ≡ cells t.heap → Outcome p s budget n f s' → Outcome p t budget k g t'
         → (n ≡ k) × (f ≡ g) × PairedStates pairs s' t' }
+    ensures one_size { (p : ProgramTables) (pairs : List (ℕ × ℕ)) (s t s' t' : State) (budget n k : ℕ) (f g : Fate)
+        → PairedStates pairs s t → cells s.heap ≡ cells t.heap → Outcome p s budget n f s' → Outcome p t budget k g t'
+        → cells s'.heap ≡ cells t'.heap }
     ensures both_come { (p : ProgramTables) (pairs : List (ℕ × ℕ)) (s t s' : State) (budget n : ℕ) (f : Fate)
         → PairedStates pairs s t → cells s.heap ≡ cells t.heap → Outcome p s budget n f s'
         → (t' : State) × Outcome p t budget n f t' }
@@ -26,6 +29,15 @@ pub fn outcomes_keep_pairs()
         → Begins p h m us s → Begins p k m vs t → PairedStates pairs s t → cells h ≡ cells k
         → CallOutcome p h m us budget n f s' → CallOutcome p k m vs budget l g t'
         → (n ≡ l) × (f ≡ g) × PairedStates pairs s' t' }
+    ensures calls_one_size { (p : ProgramTables) (pairs : List (ℕ × ℕ)) (h k : Heap) (m : ℕ) (us vs : List Value) (s t s' t' : State)
+        (budget n l : ℕ) (f g : Fate)
+        → Begins p h m us s → Begins p k m vs t → PairedStates pairs s t → cells h ≡ cells k
+        → CallOutcome p h m us budget n f s' → CallOutcome p k m vs budget l g t'
+        → cells s'.heap ≡ cells t'.heap }
+    ensures calls_both_come { (p : ProgramTables) (pairs : List (ℕ × ℕ)) (h k : Heap) (m : ℕ) (us vs : List Value) (s t s' : State)
+        (budget n : ℕ) (f : Fate)
+        → Begins p h m us s → Begins p k m vs t → PairedStates pairs s t → cells h ≡ cells k
+        → CallOutcome p h m us budget n f s' → (t' : State) × CallOutcome p k m vs budget n f t' }
 {}
 
 /// Promises that an outcome with an end is a run to that end, within the budget. It does nothing.
