@@ -23,3 +23,4 @@ pub mod Copies
 pub mod OtherCopies
 pub mod BothCopies
 pub mod OwnRuns
+pub mod OwnCalls

@@ -14,6 +14,9 @@ pub use outcome::{ended_outcomes_are_runs, outcomes_keep_pairs};
 pub use over::runs_go_on_over_frames;
 pub use pair::runs_keep_pairs;
 pub use reach::runs_change_what_they_reach;
-pub use remote::{local_calls_end_alike, remote_runs_are_local, remote_runs_are_mirrored};
+pub use remote::{
+    local_calls_end_alike, own_calls_are_local, own_runs_are_local, remote_runs_are_local,
+    remote_runs_are_mirrored,
+};
 pub use restore::restores_are_local;
 pub use script::scripts_do_what_they_promise;
