@@ -24,3 +24,4 @@ pub mod OtherCopies
 pub mod BothCopies
 pub mod OwnRuns
 pub mod OwnCalls
+pub mod ListedHeaps

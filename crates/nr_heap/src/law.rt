@@ -1,5 +1,6 @@
 //! The laws of the model.
 
+mod example;
 mod local;
 mod outcome;
 mod over;
@@ -9,6 +10,7 @@ mod remote;
 mod restore;
 mod script;
 
+pub use example::premises_can_be_met;
 pub use local::local_runs_without_copies;
 pub use outcome::{ended_outcomes_are_runs, outcomes_keep_pairs};
 pub use over::runs_go_on_over_frames;
