@@ -13,6 +13,7 @@ pub mod Reached
 pub mod Wp
 pub mod Over
 pub mod Outcomes
+pub mod Smaller
 pub mod Plain
 pub mod Relations
 pub mod Restores

@@ -27,7 +27,7 @@ module _ (P : ProgramTables) (R : ℕ → ℕ → Type 0) where
       let d = frames_deep _ _ bs in
       (ap suc d.0, ap₂ (λ m n. option_map_or (λ i. i.max_locals + i.max_stack) (method_at P m) 0 + n) a.method d.1)
 
-  deep_alike : (c d : Control) → AlikeControl R c d → is_too_deep P c ≡ is_too_deep P d
+  pub deep_alike : (c d : Control) → AlikeControl R c d → is_too_deep P c ≡ is_too_deep P d
   deep_alike c d (both_run {fs} {gs} bs) =
       let e = frames_deep fs gs bs in
       ap₂ (λ n k. nat_lt max_frames n || nat_lt max_value_slots k) e.0 e.1
@@ -140,7 +140,7 @@ module _ (P : ProgramTables) (ps : List (ℕ × ℕ)) (s t s' : State) (b n : �
 
 -- ---- the outcomes of calls
 
-begins_one : (P : ProgramTables) (h : Heap) (m : ℕ) (args : List Value) (s t : State) → Begins P h m args s → Begins P h m args t → s ≡ t
+pub begins_one : (P : ProgramTables) (h : Heap) (m : ℕ) (args : List Value) (s t : State) → Begins P h m args s → Begins P h m args t → s ≡ t
 begins_one P h m args s t p q = go (method_at P m) p q
   where
     go : (o : Option MethodInfo) → IsSomeAnd o (λ i. s ≡ start_of i m h args) → IsSomeAnd o (λ i. t ≡ start_of i m h args) → s ≡ t
@@ -148,7 +148,7 @@ begins_one P h m args s t p q = go (method_at P m) p q
     go (Some i) p q = p ∙ sym q
 
 -- the first state with the fact that chooses its fate
-begins_heap : (P : ProgramTables) (h : Heap) (m : ℕ) (args : List Value) (s : State) → Begins P h m args s → s.heap ≡ h
+pub begins_heap : (P : ProgramTables) (h : Heap) (m : ℕ) (args : List Value) (s : State) → Begins P h m args s → s.heap ≡ h
 begins_heap P h m args s p = go (method_at P m) p
   where
     go : (o : Option MethodInfo) → IsSomeAnd o (λ i. s ≡ start_of i m h args) → s.heap ≡ h

@@ -12,7 +12,7 @@ mod script;
 
 pub use example::premises_can_be_met;
 pub use local::local_runs_without_copies;
-pub use outcome::{ended_outcomes_are_runs, outcomes_keep_pairs};
+pub use outcome::{ended_outcomes_are_runs, outcomes_keep_pairs, smaller_heaps_do_as_well};
 pub use over::runs_go_on_over_frames;
 pub use pair::runs_keep_pairs;
 pub use reach::runs_change_what_they_reach;

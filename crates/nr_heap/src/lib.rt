@@ -11,5 +11,6 @@ pub use law::{
     own_calls_are_local, own_runs_are_local, premises_can_be_met, remote_runs_are_local,
     remote_runs_are_mirrored, restores_are_local, runs_change_what_they_reach,
     runs_go_on_over_frames, runs_keep_pairs, scripts_do_what_they_promise,
+    smaller_heaps_do_as_well,
 };
 pub use value::{Ref, Value};
