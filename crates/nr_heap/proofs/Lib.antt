@@ -24,5 +24,6 @@ pub mod Copies
 pub mod OtherCopies
 pub mod BothCopies
 pub mod OwnRuns
+pub mod Closed
 pub mod OwnCalls
 pub mod ListedHeaps

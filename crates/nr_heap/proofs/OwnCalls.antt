@@ -9,9 +9,9 @@ use Rattle.nr_heap.specs.declared.value.Value.{Value}
 use Rattle.nr_heap.specs.declared.value.Value.TheVariants.{Int, Long, Null, Ref}
 use Rattle.nr_heap.specs.Heaps.{Obj, Heap, on_some}
 use Rattle.nr_heap.specs.States.{Returned, State}
-use Rattle.nr_heap.specs.Alike.{no_more, AlikeAt, no_frame, one_frame, AlikeResult, both_run, Any}
-use Rattle.nr_heap.specs.Pairs.{name_at, slot_name, IsClosed, Holds}
-use Rattle.nr_heap.proofs.Matchings.{Matched, AlikeState}
+use Rattle.nr_heap.specs.Alike.{no_more, no_frame, one_frame, AlikeResult, both_run, Any}
+use Rattle.nr_heap.specs.Pairs.{name_at, IsClosed, Holds}
+use Rattle.nr_heap.proofs.Matchings.{AlikeState}
 use Rattle.nr_linked.specs.declared.program.tables.MethodInfo.{MethodInfo}
 use Rattle.nr_linked.specs.declared.program.tables.ProgramTables.{ProgramTables}
 use Rattle.nr_linked.specs.Programs.{method_at}
@@ -21,12 +21,13 @@ use Rattle.nr_heap.specs.Same.{OldAndResults, SameReached}
 use Rattle.nr_heap.specs.LocalEntries.{IsLocal, IsOwn}
 use Rattle.nr_heap.specs.Asks.{Entry}
 use Rattle.nr_heap.proofs.Heaps.{sum_left}
-use Rattle.nr_heap.proofs.Paths.{none_some, some_eq, at_match, matched_paired}
+use Rattle.nr_heap.proofs.Paths.{none_some, some_eq, matched_paired}
 use Rattle.nr_heap.proofs.Frames.{result_more, locals_like}
 use Rattle.nr_heap.proofs.Runs.{LaterState, runs_paired}
 use Rattle.nr_heap.proofs.Kept.{result_names}
-use Rattle.nr_heap.proofs.Reached.{Self, any_at, both_eq, list_self}
+use Rattle.nr_heap.proofs.Reached.{Self, list_self}
 use Rattle.nr_heap.proofs.Restores.{returned_alike}
+use Rattle.nr_heap.proofs.Closed.{closed_matched}
 
 -- a name among copied values is the copy of one among the values
 names_copied : (copies : FinMap nat_cmp ℕ) (vs : List Value) (i y : ℕ) → name_at (map (copied_value copies) vs) i ≡ Some y → (b : ℕ) × (name_at vs i ≡ Some b) × (copy_of copies b ≡ y)
@@ -80,16 +81,9 @@ module _ (P : ProgramTables) (h : Heap) (args : List Value) (closed : IsClosed h
   abbrev R : ℕ → ℕ → Type 0
   R = Self (λ x. get k x ≢ None)
 
-  beside_itself : Matched R k k
-  beside_itself = record {
-    one_right = λ x y z r s. sym r.1 ∙ s.1;
-    one_left = λ x y z r s. r.1 ∙ sym s.1;
-    alike = λ x y r. subst (λ z. AlikeAt R (get k x) (get k z)) r.1 (at_match R _ _ (any_at _ r.0) (λ i b c e f. (with_copies x i b e, both_eq (slot_name k x i) b c e f)));
-  }
-
   begin : (i : MethodInfo) (m : ℕ) → AlikeState R (start_of i m k args') (start_of i m k args')
   begin i m = record {
-    heap = beside_itself;
+    heap = closed_matched k with_copies;
     control = both_run (one_frame (record {
       method = refl;
       offset = refl;

@@ -77,7 +77,7 @@ module _ (h h1 h0 hL hS hR : Heap) (R S T : ℕ → ℕ → Type 0)
   joined = record { one_right = joined_right; one_left = joined_left; alike = joined_at }
 
 -- whether a name is the first of a listed pair
-on_list : (ps : List (ℕ × ℕ)) (x : ℕ) → OnLeft (Listed ps) x ⊎ (OnLeft (Listed ps) x → ⊥)
+pub on_list : (ps : List (ℕ × ℕ)) (x : ℕ) → OnLeft (Listed ps) x ⊎ (OnLeft (Listed ps) x → ⊥)
 on_list [] x = inr (λ i. i.1)
 on_list (p ∷ ps) x = by (ℕ_discrete x p.0) (on_list ps x)
   where

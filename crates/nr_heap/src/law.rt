@@ -1,5 +1,6 @@
 //! The laws of the model.
 
+mod closed;
 mod example;
 mod local;
 mod outcome;
@@ -10,6 +11,7 @@ mod remote;
 mod restore;
 mod script;
 
+pub use closed::heaps_stay_closed;
 pub use example::premises_can_be_met;
 pub use local::local_runs_without_copies;
 pub use outcome::{ended_outcomes_are_runs, outcomes_keep_pairs, smaller_heaps_do_as_well};
