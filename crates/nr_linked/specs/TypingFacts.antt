@@ -99,8 +99,8 @@ pub record CallFacts (P : ProgramTables) (own code c : ℕ) (callee : MethodInfo
   pub static : is_static callee.flags ≡ (code == 184)
   -- invokespecial (183) alone calls an initialiser, which the named class declares, and which gives nothing
   pub initialiser : IsTrue (is_initialiser callee) → (code ≡ 183) × (callee.«class» ≡ c) × (callee.result ≡ None)
-  -- a private method is of the named class or of one above it, and of no class to which any reference goes
-  pub private : IsTrue (is_private callee.flags) → IsTrue (is_above P c callee.«class») × (admits_any P callee.«class» ≡ false)
+  -- a private method is of the named class or of one above it
+  pub private : IsTrue (is_private callee.flags) → IsTrue (is_above P c callee.«class»)
   -- invokespecial of another method names the class that holds the code, or one above it
   pub ancestor : code ≡ 183 → is_initialiser callee ≡ false → IsTrue (is_above P own c)
 
@@ -123,6 +123,8 @@ pub record SiteFacts (P : ProgramTables) (own : ℕ) (s : Site) : Type 0 where
   pub kind : (k : Kind) → s.resolved ≡ resolved.Kind k → IsTrue (is_assignable P k k)
   -- `new` names a class that can have objects
   pub made : s.instr.row.family ≡ F33 → (k : Kind) → s.resolved ≡ resolved.Kind k → (c : ℕ) × (k ≡ class_kind c) × IsTrue (is_makeable P c)
+  -- anewarray (189) names elements of at most 254 dimensions: their array has at most 255
+  pub elements : s.instr.row.code ≡ 189 → (k : Kind) → s.resolved ≡ resolved.Kind k → k.dims ≤ 254
   -- multianewarray names an array of as many dimensions as it has counts, at least one
   pub dimensions : (i n : ℕ) (k : Kind) → s.instr.args ≡ args.Dims i n → s.resolved ≡ resolved.Kind k → (1 ≤ n) × (n ≤ k.dims)
   pub call : s.instr.row.family ≡ F32 → (n c : ℕ) (callee : MethodInfo) → s.resolved ≡ resolved.Method n c → method_at P n ≡ Some callee

@@ -192,7 +192,7 @@ module _ (P : ProgramTables) (facts : TypingFacts P) where
             (throws P facts own F G h0 Q s owed built_ins.AbstractMethodError refl _ _) (λ n x.
             let r = and_then_of (selected P named) (class_of P e) n x in
             select_fits call r.0 e c n r.2 (λ y q. below_its_class e r.0 y r.1 q) (λ hid.
-            let f = call.private hid in trans P facts e (class_kind owner) (class_kind callee.«class») p (class_up P facts owner callee.«class» (yes (is_above P owner callee.«class») f.0))))
+            trans P facts e (class_kind owner) (class_kind callee.«class») p (class_up P facts owner callee.«class» (yes (is_above P owner callee.«class») (call.private hid)))))
 
         pub virtual_fits : CallFacts P own.«class» s.instr.row.code owner callee → Receives P facts own F G h0 Q t owner → Fits P h0 Q (invoke_virtual P named) LT (operand_tys own (a.args ++ (t ∷ us)))
         virtual_fits call r = subst (λ o. Fits P h0 Q (with_found o (λ i. on_receiver P i (λ kind. call_selected P (selected_for P named kind)))) LT (operand_tys own (a.args ++ (t ∷ us)))) (sym is_callee)
@@ -209,8 +209,7 @@ module _ (P : ProgramTables) (facts : TypingFacts P) where
         private_below : CallFacts P own.«class» s.instr.row.code owner callee → s.instr.row.code ≡ 183 → is_initialiser callee ≡ false → (e : Kind) → T (is_assignable P e (class_kind own.«class»)) → IsTrue (is_private callee.flags)
             → T (is_assignable P e (class_kind callee.«class»))
         private_below call code init e p hid =
-            let f = call.private hid in
-            let u = facts.above_above own.«class» owner callee.«class» (call.ancestor code init) f.0 in
+            let u = facts.above_above own.«class» owner callee.«class» (call.ancestor code init) (call.private hid) in
             trans P facts e (class_kind own.«class») (class_kind callee.«class») p (class_up P facts own.«class» callee.«class» (yes (is_above P own.«class» callee.«class») u))
 
         no_built_in : is_initialiser callee ≡ false → (k r : Script) → callee.body ≡ None → built_in_rule P callee k ≡ Some r → ⊥
