@@ -1,5 +1,5 @@
 -- A state that stands in its heap also stands in another typed heap that has its names with their kinds.
-use Rattle.std.proofs.Common.{ℕ, zero, suc, List, [], ◌∷◌, sym, subst, T}
+use Rattle.std.proofs.Common.{◌≡◌, ℕ, zero, suc, List, [], ◌∷◌, sym, subst, ◌∙◌, T}
 use Rattle.std.specs.Prelude.{Option, Some, None, IsSomeAnd, drop}
 use Rattle.std.specs.FinMap.{get}
 use Rattle.nr_linked.specs.declared.program.kind.Kind.{Kind}
@@ -16,7 +16,7 @@ use Rattle.nr_heap.specs.declared.value.Value.TheVariants.{Int, Long, Null, Ref}
 use Rattle.nr_heap.specs.Heaps.{Heap, on_some}
 use Rattle.nr_heap.specs.CallRules.{operands_of}
 use Rattle.nr_heap.specs.States.{Frame, Control, Running, Returned, Thrown, State}
-use Rattle.nr_typed.specs.Types.{Ty, Anything, Word, AnInt, Small, ALong, JustNull, Nullable, Object, Exact, ty_of, operand_tys, local_tys}
+use Rattle.nr_typed.specs.Types.{Ty, Anything, Word, AnInt, Small, ALong, JustNull, Nullable, Object, Just, Exact, ty_of, operand_tys, local_tys}
 use Rattle.nr_typed.specs.Belonging.{Belongs, Belong, no_place, one_place}
 use Rattle.nr_typed.specs.TypedHeaps.{TypedHeap, KeepsNames}
 use Rattle.nr_typed.specs.Standing.{Holds, AllWait, throwable, ControlStands, StandsIn}
@@ -49,6 +49,11 @@ module _ (P : ProgramTables) (frames : ℕ → List TypeFrame) (h k : Heap) (n :
   value_on (Object c) Null l q = q
   value_on (Object c) (Int i) l q = q
   value_on (Object c) (Long i) l q = q
+  value_on (Just c) (Ref a) l q =
+      let o = some_of (get h a) (λ o. o.kind ≡ c) q in let p = n.at a o.0 o.1 in at_some (get k a) p.0 (λ o. o.kind ≡ c) p.1 (p.2 ∙ o.2)
+  value_on (Just c) Null l q = q
+  value_on (Just c) (Int i) l q = q
+  value_on (Just c) (Long i) l q = q
   value_on (Exact c i) v l q = absurd l
 
   lengthless : (top : Ty) → Lengthless top → (m : MethodInfo) (t : VType) → Lengthless (ty_of top m t)
@@ -59,7 +64,7 @@ module _ (P : ProgramTables) (frames : ℕ → List TypeFrame) (h k : Heap) (n :
   lengthless top l m types.UninitThis = tt
   lengthless top l m (types.Uninit i) = made (class_made_at m i)
     where
-      made : (o : Option ℕ) → Lengthless (on_some o JustNull (λ c. Object (class_kind c)))
+      made : (o : Option ℕ) → Lengthless (on_some o JustNull (λ c. Just (class_kind c)))
       made None = tt
       made (Some c) = tt
   lengthless top l m (types.Class c) = tt
