@@ -34,10 +34,11 @@ use Rattle.nr_heap.specs.CallRules.{operands_of, out_rule, built_in_rule, call, 
 use Rattle.nr_typed.specs.Types.{argument_tys, Ty, Object, Exact, kind_tys, operand_tys, local_tys}
 use Rattle.nr_typed.specs.Belonging.{one_place, Sharper, AllSharper}
 use Rattle.nr_typed.specs.Fits.{Fits}
-use Rattle.nr_typed.specs.Standing.{SameDescriptor}
+use Rattle.nr_typed.specs.Standing.{SameNameAndDescriptor}
 use Rattle.nr_typed.proofs.Assigning.{above_zero, yes, holds, never, or_left, or_right, and_both, any_up, trans, class_up}
 use Rattle.nr_typed.proofs.Belongs.{exact_object, length_operands}
 use Rattle.nr_typed.proofs.Owed.{Owed, if_fits, throws}
+use Rattle.nr_typed.proofs.Selecting.{selected_name}
 use Rattle.nr_typed.proofs.Receivers.{drop_past, joined, length_more, all_before, arguments_at, arguments_ok, Receives, receiver, calls}
 
 pub and_then_of : {X Y : Type 0} (f : X → Option Y) (o : Option X) (y : Y) → option_and_then f o ≡ Some y → (x : X) × (o ≡ Some x) × (f x ≡ Some y)
@@ -142,7 +143,7 @@ module _ (P : ProgramTables) (facts : TypingFacts P) where
             let f : F.operands ≡ (a.args ++ (t ∷ [])) ++ us = a.split ∙ (ap (λ r. a.args ++ r) rest ∙ joined a.args us t) in
             subst₂ (λ n ts. drop n ts ≡ us) (sym n) (sym f) (drop_past (a.args ++ (t ∷ [])) us)
 
-        pub call_object : (n : ℕ) (method : MethodInfo) (body : Body) → method_at P n ≡ Some method → method.body ≡ Some body → SameDescriptor callee method → (e : Kind) (c : ℕ) → T (is_assignable P e (class_kind method.«class»))
+        pub call_object : (n : ℕ) (method : MethodInfo) (body : Body) → method_at P n ≡ Some method → method.body ≡ Some body → SameNameAndDescriptor callee method → (e : Kind) (c : ℕ) → T (is_assignable P e (class_kind method.«class»))
             → Fits P h0 Q (Call n) LT (operand_tys own a.args ++ (Exact e c ∷ operand_tys own us))
         call_object n method body is_method is_body same e c p =
             let args : List Ty = operand_tys own a.args ++ (Exact e c ∷ []) in
@@ -158,7 +159,7 @@ module _ (P : ProgramTables) (facts : TypingFacts P) where
             one_sharper s h vs (one_place a q) = one_place (s h _ a) q
 
             -- both take a receiver, since both take one operand more than parameters
-            not_static : (method : MethodInfo) → SameDescriptor callee method → is_static callee.flags ≡ false → is_static method.flags ≡ false
+            not_static : (method : MethodInfo) → SameNameAndDescriptor callee method → is_static callee.flags ≡ false → is_static method.flags ≡ false
             not_static method same e = by_flag (is_static method.flags) refl
               where
                 by_flag : (z : Bool) → is_static method.flags ≡ z → is_static method.flags ≡ false
@@ -168,8 +169,8 @@ module _ (P : ProgramTables) (facts : TypingFacts P) where
                     let k : length callee.params ≡ length method.params = ap (λ ps. length ps) same.params in
                     absurd (omega arith)
 
-        pub same_self : SameDescriptor callee callee
-        same_self = record { flags = refl; params = refl; result = refl }
+        pub same_self : SameNameAndDescriptor callee callee
+        same_self = record { name = refl; flags = refl; params = refl; result = refl }
 
         -- the selected method
         select_fits : (facts_of : CallFacts P own.«class» s.instr.row.code owner callee) (d : ℕ) (e : Kind) (c : ℕ) (n : ℕ) → selected P named d ≡ Some n
@@ -183,7 +184,7 @@ module _ (P : ProgramTables) (facts : TypingFacts P) where
                 call_object n callee r.1 (subst (λ n. method_at P n ≡ Some callee) (sym r.0) is_callee) r.2 same_self e c (hidden p)
             by_flag false p =
                 let r = facts.selects named d n callee is_callee instance p sel in
-                call_object n r.method r.body r.is_method r.is_body (record { flags = subst₂ (λ x ps. operands_of callee ≡ (if x then length ps else suc (length ps))) (instance ∙ sym r.instance) r.params refl; params = r.params; result = r.result }) e c (below r.method.«class» (yes (is_above P d r.method.«class») r.above))
+                call_object n r.method r.body r.is_method r.is_body (record { name = selected_name P named d n callee r.method is_callee p sel r.is_method; flags = subst₂ (λ x ps. operands_of callee ≡ (if x then length ps else suc (length ps))) (instance ∙ sym r.instance) r.params refl; params = r.params; result = r.result }) e c (below r.method.«class» (yes (is_above P d r.method.«class») r.above))
 
         -- selection in the receiver's class
         selection_fits : (call : CallFacts P own.«class» s.instr.row.code owner callee) (e : Kind) (c : ℕ) → T (is_assignable P e (class_kind owner))

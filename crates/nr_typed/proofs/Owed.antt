@@ -39,7 +39,7 @@ use Rattle.nr_typed.specs.Types.{Ty, Anything, Word, AnInt, ALong, JustNull, Nul
 use Rattle.nr_typed.specs.Belonging.{Belongs, Belong, one_place, Sharper, AllSharper, InRange}
 use Rattle.nr_typed.specs.TypedHeaps.{slot_ty, TypedHeap, Stays}
 use Rattle.nr_typed.specs.Fits.{OnNullness, Fits}
-use Rattle.nr_typed.specs.Standing.{throwable, SameDescriptor}
+use Rattle.nr_typed.specs.Standing.{throwable, SameNameAndDescriptor}
 use Rattle.nr_typed.proofs.Assigning.{yes, by_kind, class_up}
 use Rattle.nr_typed.proofs.Belongs.{object_up, exact_object, null_to}
 use Rattle.nr_typed.proofs.Checks.{inv_leaves}
@@ -59,7 +59,7 @@ module _ (P : ProgramTables) (own : MethodInfo) (F G : TypeFrame) (h0 : Heap) (Q
     pub gave_none : own.result ≡ None → (w : Within) → TypedHeap P w.heap → Stays h0 w.heap → Q (Gave None) w
     pub gave : (k : Kind) → own.result ≡ Some k → (w : Within) (v : Value) → TypedHeap P w.heap → Stays h0 w.heap → Belongs P w.heap (kind_ty k) v → Q (Gave (Some v)) w
     pub called : s.instr.row.family ≡ F32 → (named owner n : ℕ) (target t : MethodInfo) (body : Body) → s.resolved ≡ resolved.Method named owner → method_at P named ≡ Some target
-        → method_at P n ≡ Some t → t.body ≡ Some body → SameDescriptor target t
+        → method_at P n ≡ Some t → t.body ≡ Some body → SameNameAndDescriptor target t
         → (w : Within) → TypedHeap P w.heap → Stays h0 w.heap → Belong P w.heap (locals_of F.locals) w.locals
         → Belong P w.heap (argument_tys t) (take (operands_of t) w.operands)
         → Belong P w.heap (operand_tys own (drop (operands_of target) F.operands)) (drop (operands_of t) w.operands) → operands_of t ≤ length w.operands → Q (Called n) w

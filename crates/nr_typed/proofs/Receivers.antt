@@ -26,7 +26,7 @@ use Rattle.nr_typed.specs.Types.{argument_tys, Ty, Word, JustNull, Nullable, Obj
 use Rattle.nr_typed.specs.Belonging.{Belongs, Belong, no_place, one_place, AllSharper}
 use Rattle.nr_typed.specs.TypedHeaps.{Counts}
 use Rattle.nr_typed.specs.Fits.{OnNullness, Fits}
-use Rattle.nr_typed.specs.Standing.{SameDescriptor}
+use Rattle.nr_typed.specs.Standing.{SameNameAndDescriptor}
 use Rattle.nr_typed.proofs.Assigning.{and_both, trans}
 use Rattle.nr_typed.proofs.Belongs.{operand_ok, kind_same, length_operands}
 use Rattle.nr_typed.proofs.Checks.{refused, inv_need}
@@ -148,7 +148,7 @@ module _ (P : ProgramTables) (facts : TypingFacts P) (own : MethodInfo) where
 
       -- a call of t, the method n, where `target` was named
       pub calls : s.instr.row.family ≡ F32 → (named owner n : ℕ) (target t : MethodInfo) (body : Body) → s.resolved ≡ resolved.Method named owner → method_at P named ≡ Some target
-          → method_at P n ≡ Some t → t.body ≡ Some body → SameDescriptor target t → (args : List Ty) (us : List VType) → length args ≡ operands_of t → AllSharper P args (argument_tys t)
+          → method_at P n ≡ Some t → t.body ≡ Some body → SameNameAndDescriptor target t → (args : List Ty) (us : List VType) → length args ≡ operands_of t → AllSharper P args (argument_tys t)
           → drop (operands_of target) F.operands ≡ us → Fits P h0 Q (Call n) LT (args ++ operand_tys own us)
       calls fam named owner n target t body rs is_target is_t is_body same args us l sharp rest w th st a q =
           let r = parted P w.heap args (operand_tys own us) w.operands q in

@@ -39,14 +39,15 @@ pub record Stands (P : ProgramTables) (frames : ℕ → List TypeFrame) (h : Hea
   pub operands : Belong P h (operand_tys holds.method holds.types.operands) f.operands
   pub room : total_size holds.types.operands ≤ holds.method.max_stack
 
--- both take the same arguments and give the same result
-pub record SameDescriptor (i j : MethodInfo) : Type 0 where
+-- both have the same name, take the same arguments and give the same result
+pub record SameNameAndDescriptor (i j : MethodInfo) : Type 0 where
+  pub name : i.name ≡ j.name
   pub flags : operands_of i ≡ operands_of j
   pub params : i.params ≡ j.params
   pub result : i.result ≡ j.result
 
--- A frame below one of method r waits at a call: r has the descriptor of the method to which the call resolves, and the
--- frame has the operands of its types without the arguments.
+-- A frame below one of method r waits at a call: r has the name and the descriptor of the method to which the call
+-- resolves, and the frame has the operands of its types without the arguments.
 pub record Waits (P : ProgramTables) (frames : ℕ → List TypeFrame) (h : Heap) (r : ℕ) (f : Frame) : Type 0 where
   pub holds : Holds P frames h f
   pub is_call : holds.site.instr.row.family ≡ F32
@@ -57,7 +58,7 @@ pub record Waits (P : ProgramTables) (frames : ℕ → List TypeFrame) (h : Heap
   pub is_target : method_at P named ≡ Some target
   pub above : MethodInfo
   pub is_above : method_at P r ≡ Some above
-  pub same : SameDescriptor target above
+  pub same : SameNameAndDescriptor target above
   pub operands : Belong P h (operand_tys holds.method (drop (operands_of target) holds.types.operands)) f.operands
 
 abbrev pub AllWait : ProgramTables → (ℕ → List TypeFrame) → Heap → ℕ → List Frame → Type 0
