@@ -16,7 +16,7 @@ use Rattle.nr_linked.specs.BuiltIns.{built_in}
 use Rattle.nr_linked.specs.Programs.{method_at}
 use Rattle.nr_linked.specs.Sites.{Site, site_at}
 use Rattle.nr_linked.specs.Subtypes.{is_assignable}
-use Rattle.nr_linked.specs.TypingFrames.{TypeFrame, of_kind, entry_frame}
+use Rattle.nr_linked.specs.TypingFrames.{TypeFrame, entry_frame}
 use Rattle.nr_linked.specs.TypingCalls as typing
 use Rattle.nr_linked.specs.TypingFacts.{TypingFacts, SiteFacts}
 use Rattle.nr_linked.specs.WellTyped.{falls_through, ComesTo, Onward, SiteTyped, WellTyped}
@@ -29,7 +29,7 @@ use Rattle.nr_heap.specs.CallRules.{operands_of}
 use Rattle.nr_heap.specs.Rules.{script}
 use Rattle.nr_heap.specs.States.{Frame, Control, Running, Returned, Thrown, State, IsEnd}
 use Rattle.nr_heap.specs.Steps.{unwound, next_offset, with_result, given, first_frame, script_at, within, after, StepBy, StepOf, Step, Run}
-use Rattle.nr_typed.specs.Types.{argument_tys, Word, kind_ty, operand_tys, local_tys}
+use Rattle.nr_typed.specs.Types.{argument_tys, Word, operand_tys, local_tys}
 use Rattle.nr_typed.specs.Belonging.{Belongs, Belong, no_place, one_place}
 use Rattle.nr_typed.specs.TypedHeaps.{TypedHeap, Stays}
 use Rattle.nr_typed.specs.Fits.{Fits}
@@ -41,37 +41,26 @@ use Rattle.nr_typed.proofs.Owed.{Goes, Owed}
 use Rattle.nr_typed.proofs.Instructions.{instruction_fits}
 use Rattle.nr_typed.proofs.Entering.{entry_ok}
 use Rattle.nr_typed.proofs.Returning.{call_returns}
-use Rattle.nr_typed.proofs.Steps.{none_some, some_both, frames, Method, typed, own_above, at_site, Arrival, comes_to, branch_to, method_of, holds_on, all_wait_on, goes_on, unwound_ok}
+use Rattle.nr_typed.proofs.Steps.{some_both, frames, Method, typed, own_above, at_site, Arrival, comes_to, branch_to, method_of, holds_on, all_wait_on, goes_on, unwound_ok}
 
 -- of machines whose first method has the result
 module _ (P : ProgramTables) (facts : TypingFacts P) (wt : WellTyped P) (result : Option Kind) where
   -- ---- returns
 
-  -- what a method may give back
-  abbrev pub Result : Heap → MethodInfo → Option Value → Type 0
-  Result h i None = i.result ≡ None
-  Result h i (Some v) = (k : Kind) × (i.result ≡ Some k) × Belongs P h (kind_ty k) v
+  -- another name of the same result
+  same_result : (h : Heap) (o p : Option Kind) → o ≡ p → (v : Option Value) → IsResult P h o v → IsResult P h p v
+  same_result h o p e v q = subst (λ o. IsResult P h o v) e q
 
-  result_same : (h : Heap) (i j : MethodInfo) → i.result ≡ j.result → (v : Option Value) → Result h j v → Result h i v
-  result_same h i j e None q = e ∙ q
-  result_same h i j e (Some v) q = (q.0, e ∙ q.1, q.2)
+  given_operands : (h : Heap) (own : MethodInfo) (o : Option Kind) (rest : List VType) (v : Option Value) → IsResult P h o v → (vs : List Value)
+      → Belong P h (operand_tys own rest) vs → Belong P h (operand_tys own (typing.with_result o rest)) (with_result v vs)
+  given_operands h own None rest None q vs b = b
+  given_operands h own (Some k) rest (Some v) q vs b = one_place (subst (λ t. Belongs P h t v) (sym (kind_same P facts Word own k)) q) b
+  given_operands h own None rest (Some v) q vs b = absurd q
+  given_operands h own (Some k) rest None q vs b = absurd q
 
-  result_is : (h : Heap) (i : MethodInfo) (o : Option Kind) → i.result ≡ o → (v : Option Value) → Result h i v → IsResult P h o v
-  result_is h i None e None q = tt
-  result_is h i None e (Some v) q = none_some (sym e ∙ q.1)
-  result_is h i (Some k) e None q = none_some (sym q ∙ e)
-  result_is h i (Some k) e (Some v) q = subst (λ k. Belongs P h (kind_ty k) v) (some_both q.1 e) q.2
-
-  given_operands : (h : Heap) (own target : MethodInfo) (rest : List VType) (us : List VType) → typing.with_result target.result rest ≡ us → (v : Option Value) → Result h target v → (vs : List Value)
-      → Belong P h (operand_tys own rest) vs → Belong P h (operand_tys own us) (with_result v vs)
-  given_operands h own target rest us e None q vs b = subst (λ us. Belong P h (operand_tys own us) vs) (ap (λ o. typing.with_result o rest) (sym q) ∙ e) b
-  given_operands h own target rest us e (Some v) q vs b =
-      let z : of_kind q.0 ∷ rest ≡ us = ap (λ o. typing.with_result o rest) (sym q.1) ∙ e in
-      subst (λ us. Belong P h (operand_tys own us) (v ∷ vs)) z (one_place (subst (λ t. Belongs P h t v) (sym (kind_same P facts Word own q.0)) q.2) b)
-
-  pub given_ok : (h : Heap) (r : ℕ) (i : MethodInfo) → method_at P r ≡ Some i → (v : Option Value) → Result h i v → (fs : List Frame) → AllWait P (frames P facts wt) result h r fs
+  pub given_ok : (h : Heap) (r : ℕ) (i : MethodInfo) → method_at P r ≡ Some i → (v : Option Value) → IsResult P h i.result v → (fs : List Frame) → AllWait P (frames P facts wt) result h r fs
       → (c : Control) × (given P v fs ≡ Some c) × ControlStands P (frames P facts wt) result h c
-  given_ok h r i is_i v q [] w = (Returned v, refl, result_is h i result (sym (ap (λ o. option_and_then (λ (i : MethodInfo). i.result) o) is_i) ∙ w) v q)
+  given_ok h r i is_i v q [] w = (Returned v, refl, same_result h i.result result (sym (ap (λ o. option_and_then (λ (i : MethodInfo). i.result) o) is_i) ∙ w) v q)
   given_ok h r i is_i v q (f ∷ fs) w =
       let x = w.0.holds in
       let m = method_of P facts wt h f x in
@@ -81,8 +70,9 @@ module _ (P : ProgramTables) (facts : TypingFacts P) (wt : WellTyped P) (result 
       let falls : falls_through x.site.instr.row.family ≡ true = subst (λ f. falls_through f ≡ true) (sym w.0.is_call) refl in
       let on = some_of x.site.next (ComesTo P x.method (wt.frames f.method) s.leaves) (subst (λ z. Onward P x.method (wt.frames f.method) z x.site.next s.leaves) falls s.onward) in
       let arrival : Arrival P facts wt f.method m s.leaves on.0 = comes_to P facts wt f.method m s.leaves on.0 on.2 in
-      let res : Result h w.0.target v = result_same h w.0.target i (w.0.same.result ∙ ap (λ (i : MethodInfo). i.result) (some_both w.0.is_above is_i)) v q in
-      let ops = given_operands h x.method w.0.target ret.rest s.leaves.operands ret.operands v res f.operands (ret.rest_on h f.operands w.0.operands) in
+      let res = same_result h i.result w.0.target.result (sym (w.0.same.result ∙ ap (λ (i : MethodInfo). i.result) (some_both w.0.is_above is_i))) v q in
+      let ops = subst (λ us. Belong P h (operand_tys x.method us) (with_result v f.operands)) ret.operands
+      (given_operands h x.method w.0.target.result ret.rest v res f.operands (ret.rest_on h f.operands w.0.operands)) in
       let next : next_offset P f.method f.offset ≡ Some on.0 =
       ap (λ o. option_and_then (λ (s : Site). s.next) (option_and_then (λ (i : MethodInfo). site_at i f.offset) o)) x.is_method ∙ (ap (λ o. option_and_then (λ (s : Site). s.next) o) x.is_site ∙ on.1) in (
         Running (record f { offset = on.0; operands = with_result v f.operands } ∷ fs),
@@ -104,7 +94,7 @@ module _ (P : ProgramTables) (facts : TypingFacts P) (wt : WellTyped P) (result 
   abbrev pub Gives : MethodInfo → Within → Ending → Type 0
   Gives own w (GoesTo at) = Unit {0}
   Gives own w (Threw a) = Belongs P w.heap (throwable P) (Ref a)
-  Gives own w (Gave v) = Result w.heap own v
+  Gives own w (Gave v) = IsResult P w.heap own.result v
   Gives own w (Called n) = (t : MethodInfo) × (method_at P n ≡ Some t) × (operands_of t ≤ length w.operands) × Belong P w.heap (argument_tys t) (take (operands_of t) w.operands)
 
   fits_in : (x y : ℕ) (c : Control) → x ≤ y → (if nat_le x y then Some c else None) ≡ Some c
@@ -156,7 +146,7 @@ module _ (P : ProgramTables) (facts : TypingFacts P) (wt : WellTyped P) (result 
           q,
         )
 
-    gave_ok : (w : Within) (v : Option Value) → TypedHeap P w.heap → Stays s.heap w.heap → Result w.heap own v → Owes (Gave v) w
+    gave_ok : (w : Within) (v : Option Value) → TypedHeap P w.heap → Stays s.heap w.heap → IsResult P w.heap own.result v → Owes (Gave v) w
     gave_ok w v tw sw q = let r = given_ok w.heap f.method own st.holds.is_method v q fs (all_wait_on P facts wt result s.heap w.heap sw f.method fs ws) in (tw, r.0, r.1, r.2, q)
 
     owed : Owed P own st.holds.types G s.heap Owes st.holds.site
@@ -166,8 +156,8 @@ module _ (P : ProgramTables) (facts : TypingFacts P) (wt : WellTyped P) (result 
           subst (λ o. Goes P own st.holds.types G s.heap Owes (onward o)) (sym on.1) (go on.0 (comes_to P facts wt f.method m G on.0 on.2));
       branch = λ t c. go t (branch_to P facts wt f.method m G t (site_typed.branches t c));
       threw = threw_ok;
-      gave_none = λ e w tw sw. gave_ok w None tw sw e;
-      gave = λ k e w v tw sw q. gave_ok w (Some v) tw sw (k, e, q);
+      gave_none = λ e w tw sw. gave_ok w None tw sw (same_result w.heap None own.result (sym e) None tt);
+      gave = λ k e w v tw sw q. gave_ok w (Some v) tw sw (same_result w.heap (Some k) own.result (sym e) (Some v) q);
       called = λ fam named owner n target t body rs is_target is_t is_body same w tw sw q args rest l.
           let top : Frame = first_frame t n (take (operands_of t) w.operands) in
           let below : Frame = record f { locals = w.locals; operands = drop (operands_of t) w.operands } in

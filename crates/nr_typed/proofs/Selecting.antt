@@ -11,19 +11,13 @@ use Rattle.nr_linked.specs.Programs.{method_at}
 use Rattle.nr_linked.specs.Selection.{is_private, is_called, is_selectable, can_select, methods_upward, has_body, with_body, first_selected, selected}
 use Rattle.nr_typed.proofs.Assigning.{holds, and_both}
 
-some_same : {X : Type 0} {x y : X} → Some x ≡ Some y → x ≡ y
-some_same e = cc
-
-none_some : {X : Type 0} {x : X} → ◌≡◌ {A = Option X} None (Some x) → ⊥
-none_some e = cc
-
 -- what is found passes the test
 found_passes : (test : ℕ → Bool) (ns : List ℕ) (k : ℕ) → find test ns ≡ Some k → T (test k)
-found_passes test [] k e = absurd (none_some e)
+found_passes test [] k e = absurd (cc)
 found_passes test (n ∷ ns) k e = cases (test n) (λ p. p) (λ e. found_passes test ns k e) e
   where
     cases : (b : Bool) → (T b → T (test n)) → (find test ns ≡ Some k → T (test k)) → (if b then Some n else find test ns) ≡ Some k → T (test k)
-    cases true here go e = subst (λ n. T (test n)) (some_same e) (here tt)
+    cases true here go e = let s : n ≡ k = cc in subst (λ n. T (test n)) s (here tt)
     cases false here go e = go e
 
 module _ (P : ProgramTables) where
@@ -32,11 +26,11 @@ module _ (P : ProgramTables) where
   body_same m k e = cases (has_body P m) e
     where
       cases : (b : Bool) → (if b then Some m else None) ≡ Some k → m ≡ k
-      cases true e = some_same e
-      cases false e = absurd (none_some e)
+      cases true e = cc
+      cases false e = absurd (cc)
 
   through_body : (o : Option ℕ) (k : ℕ) → option_and_then (with_body P) o ≡ Some k → o ≡ Some k
-  through_body None k e = absurd (none_some e)
+  through_body None k e = absurd (cc)
   through_body (Some m) k e = subst (λ k. Some m ≡ Some k) (body_same m k e) refl
 
   selectable_name : (i j : MethodInfo) → T (is_selectable i.name i.desc j) → i.name ≡ j.name

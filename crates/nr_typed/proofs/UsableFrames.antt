@@ -26,10 +26,10 @@ use Rattle.nr_heap.specs.Alike.{like_ref, AllLike, no_more, one_more, AlikeAt, a
 use Rattle.nr_heap.proofs.Matchings.{AlikeEnding, both_go, both_threw, both_gave, both_called}
 use Rattle.nr_heap.proofs.Frames.{locals_like}
 use Rattle.nr_typed.specs.Types.{Ty, Object, argument_tys, kind_ty, kind_tys, operand_tys, local_tys}
-use Rattle.nr_typed.specs.Belonging.{Belongs, Belong, NoLong}
+use Rattle.nr_typed.specs.Belonging.{Belong, NoLong}
 use Rattle.nr_typed.specs.TypedHeaps.{TypedHeap}
 use Rattle.nr_typed.specs.Fits.{Ends}
-use Rattle.nr_typed.specs.Standing.{Holds, Stands, Waits, AllWait, AllStand, ControlStands}
+use Rattle.nr_typed.specs.Standing.{Holds, Stands, Waits, AllWait, AllStand, IsResult, ControlStands}
 use Rattle.nr_typed.specs.Usable.{Usable, UsableLike, local_types, operand_types, UsableFrame, UsableFrames, no_frame, one_frame, UsableControl, both_run, both_return, both_throw}
 use Rattle.nr_typed.specs.Usable as usable
 use Rattle.nr_typed.proofs.Assigning.{by_kind}
@@ -38,7 +38,7 @@ use Rattle.nr_typed.proofs.Places.{both_admitted, places_belong}
 use Rattle.nr_typed.proofs.Agreeing.{Beside, Owing}
 use Rattle.nr_typed.proofs.Blanks.{blank, blank_kept, blank_length, blank_take, blank_drop, blank_ok, flow, places_usable, alike_usable, usable_length, usable_take, usable_drop, local_types_of, waiting_types, Fills, stands_fills, waits_fills}
 use Rattle.nr_typed.proofs.Steps.{none_some, some_same, some_both, frames, holds_on, all_wait_on, Unwinds, waiting_unwinds, unwound_ok}
-use Rattle.nr_typed.proofs.Progress.{Result, given_ok, called_control, enters, Owes}
+use Rattle.nr_typed.proofs.Progress.{given_ok, called_control, enters, Owes}
 
 -- ---- arguments and results are usable
 
@@ -113,11 +113,12 @@ module _ (P : ProgramTables) (facts : TypingFacts P) (wt : WellTyped P) (result 
 
     -- ---- returns
 
-    result_flow : (i : MethodInfo) (v v2 : Option Value) → AlikeResult R v v2 → Result P facts wt result h i v → (ts xs : List Ty) (us vs : List Value) → UsableLike R ts us vs
+    result_flow : (o : Option Kind) (v v2 : Option Value) → AlikeResult R v v2 → IsResult P h o v → (ts xs : List Ty) (us vs : List Value) → UsableLike R ts us vs
         → ((c : Value) → NoLong c → Belong P h xs (with_result v (blank c ts us))) → UsableLike R xs (with_result v us) (with_result v2 vs)
-    result_flow i v v2 no_result q ts xs us vs l f = flow P R h ts xs us vs l f
-    result_flow i v v2 (one_result {u} {v = z} k) q ts xs us vs l f = flow P R h (kind_ty q.0 ∷ ts) xs (u ∷ us) (z ∷ vs) (usable.one_place (λ x. k) l)
-        (λ c s. subst (λ w. Belong P h xs (w ∷ blank c ts us)) (sym (blank_kept c (kind_ty q.0) u (kind_usable q.0))) (f c s))
+    result_flow o v v2 no_result q ts xs us vs l f = flow P R h ts xs us vs l f
+    result_flow None v v2 (one_result {u} {v = z} a) q ts xs us vs l f = absurd q
+    result_flow (Some k) v v2 (one_result {u} {v = z} a) q ts xs us vs l f = flow P R h (kind_ty k ∷ ts) xs (u ∷ us) (z ∷ vs) (usable.one_place (λ x. a) l)
+        (λ c s. subst (λ w. Belong P h xs (w ∷ blank c ts us)) (sym (blank_kept c (kind_ty k) u (kind_usable k))) (f c s))
 
     -- the frame below, with anything in the places that aren't usable
     waits_blank : (c : Value) → NoLong c → (r : ℕ) (f : Frame) → Waits P FR h r f
@@ -147,7 +148,7 @@ module _ (P : ProgramTables) (facts : TypingFacts P) (wt : WellTyped P) (result 
     }
 
     -- what belongs to a frame to which a result was given
-    given_fills : (r : ℕ) (i : MethodInfo) → method_at P r ≡ Some i → (v : Option Value) → Result P facts wt result h i v → (f : Frame) (fs : List Frame) → AllWait P FR result h r (f ∷ fs) → (t : ℕ) → next_offset P f.method f.offset ≡ Some t
+    given_fills : (r : ℕ) (i : MethodInfo) → method_at P r ≡ Some i → (v : Option Value) → IsResult P h i.result v → (f : Frame) (fs : List Frame) → AllWait P FR result h r (f ∷ fs) → (t : ℕ) → next_offset P f.method f.offset ≡ Some t
         → Fills P FR h f.method t f.locals (with_result v f.operands)
     given_fills r i is_i v q f fs w t z =
         let g = given_ok P facts wt result h r i is_i v q (f ∷ fs) w in
@@ -155,7 +156,7 @@ module _ (P : ProgramTables) (facts : TypingFacts P) (wt : WellTyped P) (result 
         let c : AllStand P FR result h (record f { offset = t; operands = with_result v f.operands } ∷ fs) = subst (ControlStands P FR result h) (sym (some_same same)) g.2 in
         stands_fills P FR h (record f { offset = t; operands = with_result v f.operands }) c.0
 
-    pub given_usable : (r : ℕ) (i : MethodInfo) → method_at P r ≡ Some i → (v v2 : Option Value) → AlikeResult R v v2 → Result P facts wt result h i v → (fs gs : List Frame) → AllWait P FR result h r fs → UsableFrames P FR R fs gs
+    pub given_usable : (r : ℕ) (i : MethodInfo) → method_at P r ≡ Some i → (v v2 : Option Value) → AlikeResult R v v2 → IsResult P h i.result v → (fs gs : List Frame) → AllWait P FR result h r fs → UsableFrames P FR R fs gs
         → (c d : Control) → given P v fs ≡ Some c → given P v2 gs ≡ Some d → UsableControl P FR R c d
     given_usable r i is_i v v2 l q fs gs w no_frame c d x y = subst₂ (UsableControl P FR R) (some_same x) (some_same y) (both_return l)
     given_usable r i is_i v v2 l q (f ∷ fs) (g ∷ gs) w (one_frame a bs) c d x y =
@@ -173,7 +174,7 @@ module _ (P : ProgramTables) (facts : TypingFacts P) (wt : WellTyped P) (result 
               method = a.method;
               offset = refl;
               locals = flow P R h L (local_types P FR f.method t) f.locals g.locals a.locals (λ k short. (fills k short).locals_belong);
-              operands = result_flow i v v2 l q ts (operand_types P FR f.method t (length (with_result v f.operands))) f.operands g.operands a.operands
+              operands = result_flow i.result v v2 l q ts (operand_types P FR f.method t (length (with_result v f.operands))) f.operands g.operands a.operands
                   (λ k short. subst (λ n. Belong P h (operand_types P FR f.method t n) (with_result v (blank k ts f.operands))) (length_result v _ _ (blank_length k ts f.operands)) (fills k short).operands_belong);
             }) bs))
 
@@ -187,10 +188,11 @@ module _ (P : ProgramTables) (facts : TypingFacts P) (wt : WellTyped P) (result 
 
     -- a method gives values of one kind
     pub one_kind : (w : Within) → Q (Gave (Some Null)) w → Q (Gave (Some (Int (pos 0)))) w → ⊥
-    one_kind w p q =
-        let a = p.4 in
-        let b = q.4 in
-        both_admitted P w.heap (kind_ty a.0) a.2 (subst (λ k. Belongs P w.heap (kind_ty k) (Int (pos 0))) (some_both b.1 a.1) b.2) (kind_usable a.0)
+    one_kind w p q = one_result_kind w.heap own.result p.4 q.4
+      where
+        one_result_kind : (h : Heap) (o : Option Kind) → IsResult P h o (Some Null) → IsResult P h o (Some (Int (pos 0))) → ⊥
+        one_result_kind h None p q = p
+        one_result_kind h (Some k) p q = both_admitted P h (kind_ty k) p q (kind_usable k)
 
     module _ (R : ℕ → ℕ → Type 0) (L ts : List Ty) (w1 w2 : Within) (b : Beside P s.heap Q one_kind R L ts w1 w2) (g : Frame) (gs : List Frame) (a : UsableFrame P FR R f g) (bs : UsableFrames P FR R fs gs) (c d : Control) where
       abbrev blanks : Value → Within
