@@ -38,7 +38,7 @@ use Rattle.nr_typed.specs.Standing.{SameNameAndDescriptor}
 use Rattle.nr_typed.proofs.Assigning.{above_zero, yes, holds, never, or_left, or_right, and_both, any_up, trans, class_up}
 use Rattle.nr_typed.proofs.Belongs.{exact_object, length_operands}
 use Rattle.nr_typed.proofs.Owed.{Owed, if_fits, throws}
-use Rattle.nr_typed.proofs.Selecting.{selected_name}
+use Rattle.nr_typed.proofs.Selecting.{selected_coded, selected_itself, selected_called}
 use Rattle.nr_typed.proofs.Receivers.{drop_past, joined, length_more, all_before, arguments_at, arguments_ok, Receives, receiver, calls}
 
 pub and_then_of : {X Y : Type 0} (f : X → Option Y) (o : Option X) (y : Y) → option_and_then f o ≡ Some y → (x : X) × (o ≡ Some x) × (f x ≡ Some y)
@@ -178,13 +178,20 @@ module _ (P : ProgramTables) (facts : TypingFacts P) where
             → Fits P h0 Q (Call n) LT (operand_tys own a.args ++ (Exact e c ∷ operand_tys own us))
         select_fits call d e c n sel below hidden = by_flag (is_private callee.flags) refl
           where
+            same_method : {x y : MethodInfo} {o : Option MethodInfo} → o ≡ Some x → o ≡ Some y → x ≡ y
+            same_method e f = cc
+
             by_flag : (z : Bool) → is_private callee.flags ≡ z → Fits P h0 Q (Call n) LT (operand_tys own a.args ++ (Exact e c ∷ operand_tys own us))
             by_flag true p =
-                let r = facts.itself named d n callee is_callee p sel in
-                call_object n callee r.1 (subst (λ n. method_at P n ≡ Some callee) (sym r.0) is_callee) r.2 same_self e c (hidden p)
+                let r = selected_coded P named d n sel in
+                let is : method_at P n ≡ Some callee = subst (λ n. method_at P n ≡ Some callee) (selected_itself P named d n callee is_callee sel p) is_callee in
+                let m : r.method ≡ callee = same_method r.is_method is in
+                call_object n callee r.body is (subst (λ (m : MethodInfo). m.body ≡ Some r.body) m r.is_body) same_self e c (hidden p)
             by_flag false p =
-                let r = facts.selects named d n callee is_callee instance p sel in
-                call_object n r.method r.body r.is_method r.is_body (record { name = selected_name P named d n callee r.method is_callee p sel r.is_method; flags = subst₂ (λ x ps. operands_of callee ≡ (if x then length ps else suc (length ps))) (instance ∙ sym r.instance) r.params refl; params = r.params; result = r.result }) e c (below r.method.«class» (yes (is_above P d r.method.«class») r.above))
+                let r = selected_coded P named d n sel in
+                let f = facts.selects named d n callee r.method is_callee instance p sel r.is_method in
+                let q = selected_called P named d n callee is_callee sel p r.method r.is_method in
+                call_object n r.method r.body r.is_method r.is_body (record { name = q.0; flags = subst₂ (λ x ps. operands_of callee ≡ (if x then length ps else suc (length ps))) (instance ∙ sym q.1) f.params refl; params = f.params; result = f.result }) e c (below r.method.«class» (yes (is_above P d r.method.«class») f.above))
 
         -- selection in the receiver's class
         selection_fits : (call : CallFacts P own.«class» s.instr.row.code owner callee) (e : Kind) (c : ℕ) → T (is_assignable P e (class_kind owner))

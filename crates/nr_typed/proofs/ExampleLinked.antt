@@ -26,7 +26,7 @@ use Rattle.nr_typed.proofs.Assigning.{yes, holds}
 use Rattle.nr_typed.specs.Example.{example, initialiser, base_m, main, sub_m, at, aload_0, iconst_0, ireturn, return_, pop, dup, getfield, invokespecial, invokeinterface, new_}
 use Rattle.nr_typed.proofs.ExampleTyped.{none_some, some_same, AtEach, at_place, resolved_of}
 use Rattle.nr_typed.proofs.ExampleFacts.{above_above, any_up, super_above, makeable_above, inherited, declared, slotted}
-use Rattle.nr_typed.proofs.ExampleMethods.{thrown, never, selects, itself, own, one_each, built_in_facts}
+use Rattle.nr_typed.proofs.ExampleMethods.{thrown, never, selects, own, one_each, built_in_facts}
 
 -- ---- instructions
 
@@ -301,7 +301,6 @@ example_facts = record {
   makeable = λ c p. holds (is_above example c c) (makeable_above c (yes (is_makeable example c) p));
   own = own;
   selects = selects;
-  itself = itself;
   built_ins = built_in_facts;
   one_each = one_each;
   sites = sites;
