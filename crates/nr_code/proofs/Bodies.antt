@@ -41,7 +41,9 @@ use Rattle.nr_code.proofs.Raws.{raw_instr, instr_from, instr_law}
 use Rattle.nr_code.proofs.Texts.{args_of}
 use Rattle.nr_code.proofs.Settling.{Maps, then_ok, then_gives, walked, walks, AllIn, AreBelow}
 use Rattle.nr_code.proofs.ToEnd.{EachAt, ReadsAt, to_end_found, to_end_only}
-use Rattle.nr_code.proofs.Instrs.{made_of, starts_in, start_is, to_all, of_all, all_found, all_read, all_settle}
+use Rattle.nr_code.specs.Orders.{AreInOrder, IsInOrder}
+use Rattle.nr_code.proofs.Orders.{ascends}
+use Rattle.nr_code.proofs.Instrs.{raw_placed, in_order, made_of, starts_in, start_is, to_all, of_all, all_found, all_read, all_settle}
 use Rattle.nr_code.proofs.Handlers.{ranges_are, ranges_pass}
 use Rattle.nr_code.proofs.Classes.{entry_is, entry_of_is}
 use Rattle.nr_code.proofs.MapLaws.{StartBelow, frames_law}
@@ -118,6 +120,14 @@ instrs_give pool bytes is all len g targets =
     let m = all_settle (starts_of r.raws) r.raws below r.is_pos made in
     then_gives (raws_of pool bytes) settled_all r.raws is (raws_give pool bytes r.raws all r.spelled)
     (walks (settled (starts_of r.raws)) r.raws [] (map made_of r.raws) m ∙ ap (λ z. Ok z) (sym r.are))
+
+pub raws_in_order : (pool : List PoolEntry) (bytes : List ℕ) (raws : List RawInstr) → All IsText pool → IsBytes bytes → raws_of pool bytes ≡ Ok raws → AreInOrder raws
+raws_in_order pool bytes raws all fits e = ascends (λ (i : RawInstr). i.at) (raw_instr pool) (raw_placed pool) 0 raws bytes (raws_are pool bytes raws all fits e)
+
+pub instrs_in_order : (pool : List PoolEntry) (bytes : List ℕ) (raws : List RawInstr) (r : Result (List Instr) CodeFault) → All IsText pool → IsBytes bytes → raws_of pool bytes ≡ Ok raws → GivesWhole is_free r (settled_all raws) → IfOk r IsInOrder
+unfolding instrs_of
+instrs_in_order pool bytes raws (Ok is) all fits e h = in_order pool is bytes (instrs_are pool bytes is all fits (then_gives (raws_of pool bytes) settled_all raws is e h)).0
+instrs_in_order pool bytes raws (Err d) all fits e h = tt
 
 -- ---- frame maps
 

@@ -12,6 +12,7 @@ pub mod Raws
 pub mod Texts
 pub mod Settling
 pub mod ToEnd
+pub mod Orders
 pub mod Instrs
 pub mod Handlers
 pub mod Classes

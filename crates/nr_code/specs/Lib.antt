@@ -5,5 +5,6 @@ pub mod Numbers
 pub mod OperandReading
 pub mod InstrReading
 pub mod Checks
+pub mod Orders
 pub mod MapReading
 pub mod Decoding

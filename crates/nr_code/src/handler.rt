@@ -7,8 +7,8 @@ ghost use Rattle.nr_code.specs.Checks.{handler_step, handlers_checked, is_handle
 
 use crate::fault::CodeFault;
 use crate::pool::is_class;
-use crate::start::is_start;
-use nr_prog::{Class, Handler, Instr};
+use crate::start::Starts;
+use nr_prog::{Class, Handler};
 use std::alloc::Global;
 
 #[tactic(auto, unfolding(crate::specs::Checks::is_handler))]
@@ -16,19 +16,19 @@ fn is_in_order(
     alloc: Global,
     class: &Class,
     len: usize,
-    instrs: &[Instr],
+    starts: &Starts,
     handler: &Handler,
 ) -> Result<bool, CodeFault>
-    ensures order { IfOk result (λ order. order ≡ is_handler class.now.pool len instrs.now handler.now) }
+    ensures order { IfOk result (λ order. order ≡ is_handler class.now.pool len starts.now handler.now) }
     ensures err { IsOkUnless result CodeFault.NoMemory }
 {
-    if !is_start(instrs, u32::from(handler.start)) {
+    if !starts.is_start(handler.start) {
         return Ok(false);
     }
-    if !is_start(instrs, u32::from(handler.end)) && usize::from(handler.end) != len {
+    if !starts.is_start(handler.end) && usize::from(handler.end) != len {
         return Ok(false);
     }
-    if handler.start >= handler.end || !is_start(instrs, u32::from(handler.handler)) {
+    if handler.start >= handler.end || !starts.is_start(handler.handler) {
         return Ok(false);
     }
     if handler.catch_type == 0 {
@@ -42,13 +42,13 @@ fn check_handler(
     alloc: Global,
     class: &Class,
     len: usize,
-    instrs: &[Instr],
+    starts: &Starts,
     place: u16,
     handler: &Handler,
 ) -> Result<(), CodeFault>
-    ensures { GivesWholeBy is_free (λ _. place + 1) result (handler_step class.now.pool len instrs.now place handler.now) }
+    ensures { GivesWholeBy is_free (λ _. place + 1) result (handler_step class.now.pool len starts.now place handler.now) }
 {
-    if is_in_order(alloc, class, len, instrs, handler)? {
+    if is_in_order(alloc, class, len, starts, handler)? {
         Ok(())
     } else {
         Err(CodeFault::HandlerRange(place))
@@ -61,14 +61,14 @@ pub fn check_handlers(
     alloc: Global,
     class: &Class,
     len: usize,
-    instrs: &[Instr],
+    starts: &Starts,
     handlers: &[Handler],
 ) -> Result<(), CodeFault>
     requires { length handlers.now ≤ 2 ^ 16 }
-    ensures { GivesWholeBy is_free (λ _. length handlers.now) result (handlers_checked class.now.pool len instrs.now handlers.now) }
+    ensures { GivesWholeBy is_free (λ _. length handlers.now) result (handlers_checked class.now.pool len starts.now handlers.now) }
 {
     for (place, handler) in handlers.iter().enumerate() {
-        check_handler(alloc, class, len, instrs, place as u16, handler)?;
+        check_handler(alloc, class, len, starts, place as u16, handler)?;
     }
     Ok(())
 }

@@ -1,47 +1,35 @@
 //! The targets of branches (JVM Specification 4.9.1).
 
-ghost use Rattle.std.specs.Prelude.{◌≡◌, [], IfOk, IsOkUnless};
+ghost use Rattle.std.specs.Prelude.{◌≡◌, []};
 ghost use Rattle.nr_base.specs.Clauses.{GivesWhole, GivesWholeBy};
 ghost use Rattle.nr_code.specs.Faults.{is_free};
-ghost use Rattle.nr_code.specs.Checks.{also, settled, settled_all, settled_args, settled_target, settled_targets, walk, is_among, starts_of};
+ghost use Rattle.nr_code.specs.Checks.{also, settled, settled_all, settled_args, settled_target, settled_targets, walk};
+ghost use Rattle.nr_code.specs.Orders.{AreInOrder};
 
 use crate::fault::CodeFault;
 use crate::raw::{Operands, RawInstr};
+use crate::start::Offsets;
 use nr_base::Items;
 use nr_prog::{Args, Instr};
 use std::alloc::Global;
 
-/// The offsets where instructions start.
-fn starts(alloc: Global, instrs: &[RawInstr]) -> Result<Items<u16>, CodeFault>
-    ensures starts { IfOk result (λ starts. starts ≡ starts_of instrs.now) }
-    ensures err { IsOkUnless result CodeFault.NoMemory }
-{
-    let mut starts = Items::new(alloc);
-    for instr in instrs {
-        starts.push(instr.at)?;
-    }
-    Ok(starts)
-}
-
-#[tactic(auto, unfolding(crate::specs::Checks::is_among))]
-fn is_start(starts: &[u16], at: u16) -> bool
-    ensures { result ≡ is_among starts.now at }
-{
-    starts.contains(&at)
-}
-
 #[tactic(auto, unfolding(crate::specs::Checks::settled_target))]
-fn settle(starts: &[u16], at: u16, to: i64) -> Result<u16, CodeFault>
+fn settle(starts: &Offsets, at: u16, to: i64) -> Result<u16, CodeFault>
     ensures { GivesWhole is_free result (settled_target starts.now at to) }
 {
-    if to < 0 || to > 0xFFFF || !is_start(starts, to as u16) {
+    if to < 0 || to > 0xFFFF || !starts.contains(to as u16) {
         return Err(CodeFault::Target(u32::from(at), to));
     }
     Ok(to as u16)
 }
 
 #[tactic(auto, unfolding(crate::specs::Checks::also))]
-fn target_onto(starts: &[u16], at: u16, to: &i64, targets: &mut Items<u16>) -> Result<(), CodeFault>
+fn target_onto(
+    starts: &Offsets,
+    at: u16,
+    to: &i64,
+    targets: &mut Items<u16>,
+) -> Result<(), CodeFault>
     ensures { GivesWholeBy is_free (λ _. targets.new) result (also (settled_target starts.now at) targets.old to.now) }
 {
     targets.push(settle(starts, at, *to)?)?;
@@ -51,7 +39,7 @@ fn target_onto(starts: &[u16], at: u16, to: &i64, targets: &mut Items<u16>) -> R
 #[tactic(auto, using(crate::proofs::Walks::goes_on, crate::proofs::Walks::ends), unfolding(crate::specs::Checks::settled_targets))]
 fn settle_targets(
     alloc: Global,
-    starts: &[u16],
+    starts: &Offsets,
     at: u16,
     all: &[i64],
 ) -> Result<Items<u16>, CodeFault>
@@ -67,7 +55,7 @@ fn settle_targets(
 #[tactic(auto, unfolding(crate::specs::Checks::settled_args))]
 fn settle_args(
     alloc: Global,
-    starts: &[u16],
+    starts: &Offsets,
     at: u16,
     operands: Operands,
 ) -> Result<Args, CodeFault>
@@ -106,7 +94,7 @@ fn settle_args(
 }
 
 #[tactic(auto, unfolding(crate::specs::Checks::settled))]
-fn settle_instr(alloc: Global, starts: &[u16], instr: RawInstr) -> Result<Instr, CodeFault>
+fn settle_instr(alloc: Global, starts: &Offsets, instr: RawInstr) -> Result<Instr, CodeFault>
     ensures { GivesWhole is_free result (settled starts.now instr) }
 {
     let RawInstr { at, row, operands } = instr;
@@ -117,7 +105,7 @@ fn settle_instr(alloc: Global, starts: &[u16], instr: RawInstr) -> Result<Instr,
 #[tactic(auto, unfolding(crate::specs::Checks::also))]
 fn instr_onto(
     alloc: Global,
-    starts: &[u16],
+    starts: &Offsets,
     instr: RawInstr,
     instrs: &mut Items<Instr>,
 ) -> Result<(), CodeFault>
@@ -130,7 +118,7 @@ fn instr_onto(
 #[tactic(auto, using(crate::proofs::Walks::goes_past, crate::proofs::Walks::fails_at, crate::proofs::Walks::is_past))]
 fn settle_instrs(
     alloc: Global,
-    starts: &[u16],
+    starts: &Offsets,
     raws: Items<RawInstr>,
 ) -> Result<Items<Instr>, CodeFault>
     ensures { GivesWhole is_free result (walk (also (settled starts.now)) [] raws) }
@@ -146,8 +134,9 @@ fn settle_instrs(
 /// The instructions with their targets, each of which is where an instruction starts.
 #[tactic(auto, unfolding(crate::specs::Checks::settled_all))]
 pub fn settle_all(alloc: Global, raws: Items<RawInstr>) -> Result<Items<Instr>, CodeFault>
+    requires { AreInOrder raws }
     ensures { GivesWhole is_free result (settled_all raws) }
 {
-    let starts = starts(alloc, raws.as_slice())?;
-    settle_instrs(alloc, starts.as_slice(), raws)
+    let starts = Offsets::of(alloc, raws.as_slice())?;
+    settle_instrs(alloc, &starts, raws)
 }

@@ -12,12 +12,14 @@ ghost use Rattle.nr_prog.specs.Form.{IsFormed, IsMethodFormed};
 ghost use Rattle.nr_prog.specs.Pool.{IsText};
 ghost use Rattle.nr_prog.specs.declared.body.whole.Body.{Body as BodyView};
 ghost use Rattle.nr_code.specs.Decoding.{body_of, instrs_of, maps_of, raws_of};
+ghost use Rattle.nr_code.specs.Orders.{IsInOrder};
 
 use crate::fault::CodeFault;
 use crate::handler::check_handlers;
 use crate::instruction::read_instrs;
 use crate::maps::{entry_locals, read_frames};
 use crate::raw::RawInstr;
+use crate::start::Starts;
 use crate::target::settle_all;
 use nr_base::{Cur, Items};
 use nr_prog::{Body, Class, Code, FrameMap, Handler, Instr, Method};
@@ -34,8 +36,11 @@ fn raws(alloc: Global, class: &Class, bytes: &[u8]) -> Result<Items<RawInstr>, C
 
 #[tactic(auto, unfolding(crate::specs::Decoding::instrs_of))]
 fn instrs(alloc: Global, class: &Class, bytes: &[u8]) -> Result<Items<Instr>, CodeFault>
-    requires { length bytes.now < 2 ^ 16 }
-    ensures { GivesWhole is_free result (instrs_of class.now.pool bytes.now) }
+    requires sized { length bytes.now < 2 ^ 16 }
+    requires texts { All IsText class.now.pool }
+    requires bytes { IsBytes bytes.now }
+    ensures order { IfOk result IsInOrder }
+    ensures exact { GivesWhole is_free result (instrs_of class.now.pool bytes.now) }
 {
     let raws = raws(alloc, class, bytes)?;
     settle_all(alloc, raws)
@@ -46,17 +51,17 @@ fn maps(
     alloc: Global,
     class: &Class,
     method: &Method,
-    instrs: &[Instr],
+    starts: &Starts,
     maps: &Option<Items<u8>>,
 ) -> Result<Items<FrameMap>, CodeFault>
     requires { IfSome maps.now (λ contents. length contents < 2 ^ 32) }
-    ensures { GivesWhole is_free result (maps_of class.now method.now instrs.now maps.now) }
+    ensures { GivesWhole is_free result (maps_of class.now method.now starts.now maps.now) }
 {
     match maps {
         None => Ok(Items::new(alloc)),
         Some(contents) => {
             let locals = entry_locals(alloc, class, method)?;
-            read_frames(alloc, class, instrs, locals, contents.as_slice())
+            read_frames(alloc, class, starts, locals, contents.as_slice())
         }
     }
 }
@@ -75,13 +80,16 @@ fn copied(alloc: Global, handlers: &[Handler]) -> Result<Items<Handler>, CodeFau
 /// The code of a method, by its reading.
 #[tactic(auto, unfolding(crate::specs::Decoding::body_of))]
 fn body(alloc: Global, class: &Class, method: &Method, code: &Code) -> Result<Body, CodeFault>
-    requires { IsSized code.now }
+    requires sized { IsSized code.now }
+    requires texts { All IsText class.now.pool }
+    requires bytes { IsBytes code.now.bytes }
     ensures { GivesWhole is_free result (body_of class.now method.now code.now) }
 {
     let instrs = instrs(alloc, class, code.bytes.as_slice())?;
+    let starts = Starts::of(instrs.as_slice());
     let handlers = code.handlers.as_slice();
-    check_handlers(alloc, class, code.bytes.len(), instrs.as_slice(), handlers)?;
-    let maps = maps(alloc, class, method, instrs.as_slice(), &code.maps)?;
+    check_handlers(alloc, class, code.bytes.len(), &starts, handlers)?;
+    let maps = maps(alloc, class, method, &starts, &code.maps)?;
     Ok(Body {
         instrs,
         handlers: copied(alloc, handlers)?,

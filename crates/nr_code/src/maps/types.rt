@@ -8,9 +8,9 @@ ghost use Rattle.nr_code.specs.MapReading.{class_given, class_type_at, counted_t
 
 use crate::fault::CodeFault;
 use crate::pool::class_type;
-use crate::start::is_new;
+use crate::start::Starts;
 use nr_base::{Cur, Desc, Items};
-use nr_prog::{Class, Instr, MapType};
+use nr_prog::{Class, MapType};
 use std::alloc::Global;
 
 #[tactic(auto, unfolding(crate::specs::MapReading::class_given, nr_base::specs::Reader::bind, nr_base::specs::Reader::pure, nr_base::specs::Reader::refuse, nr_base::specs::Reader::choose, nr_base::specs::Reader::from, nr_base::specs::Reader::with_fault))]
@@ -32,11 +32,11 @@ fn read_object(alloc: Global, class: &Class, at: u32, cur: &mut Cur) -> Result<M
 }
 
 #[tactic(auto, unfolding(crate::specs::MapReading::uninit_at, crate::specs::MapReading::u2_at, nr_base::specs::Reader::bind, nr_base::specs::Reader::pure, nr_base::specs::Reader::refuse, nr_base::specs::Reader::choose, nr_base::specs::Reader::from, nr_base::specs::Reader::with_fault))]
-fn read_uninit(instrs: &[Instr], at: u32, cur: &mut Cur) -> Result<MapType, CodeFault>
-    ensures { Gives is_free result cur.new (uninit_at instrs.now at cur.old) }
+fn read_uninit(starts: &Starts, at: u32, cur: &mut Cur) -> Result<MapType, CodeFault>
+    ensures { Gives is_free result cur.new (uninit_at starts.now at cur.old) }
 {
     let offset = cur.u16()?;
-    if is_new(instrs, offset) {
+    if starts.is_new(offset) {
         Ok(MapType::Uninit(offset))
     } else {
         Err(CodeFault::MapTag(at))
@@ -47,12 +47,12 @@ fn read_uninit(instrs: &[Instr], at: u32, cur: &mut Cur) -> Result<MapType, Code
 fn read_by_tag(
     alloc: Global,
     class: &Class,
-    instrs: &[Instr],
+    starts: &Starts,
     at: u32,
     tag: u8,
     cur: &mut Cur,
 ) -> Result<MapType, CodeFault>
-    ensures { Gives is_free result cur.new (type_by_at class.now.pool instrs.now at tag cur.old) }
+    ensures { Gives is_free result cur.new (type_by_at class.now.pool starts.now at tag cur.old) }
 {
     match tag {
         0 => Ok(MapType::Top),
@@ -61,7 +61,7 @@ fn read_by_tag(
         5 => Ok(MapType::Null),
         6 => Ok(MapType::UninitThis),
         7 => read_object(alloc, class, at, cur),
-        8 => read_uninit(instrs, at, cur),
+        8 => read_uninit(starts, at, cur),
         _ => Err(CodeFault::MapTag(at)),
     }
 }
@@ -71,27 +71,27 @@ fn read_by_tag(
 pub fn read_type(
     alloc: Global,
     class: &Class,
-    instrs: &[Instr],
+    starts: &Starts,
     cur: &mut Cur,
 ) -> Result<MapType, CodeFault>
-    ensures { Gives is_free result cur.new (map_type_at class.now.pool instrs.now cur.old) }
+    ensures { Gives is_free result cur.new (map_type_at class.now.pool starts.now cur.old) }
 {
     let at = cur.at();
     let tag = cur.u8()?;
-    read_by_tag(alloc, class, instrs, at, tag, cur)
+    read_by_tag(alloc, class, starts, at, tag, cur)
 }
 
 #[tactic(auto, unfolding(nr_base::specs::Reader::onto, nr_base::specs::Reader::bind, nr_base::specs::Reader::pure, nr_base::specs::Reader::refuse, nr_base::specs::Reader::choose, nr_base::specs::Reader::from, nr_base::specs::Reader::with_fault))]
 fn type_onto(
     alloc: Global,
     class: &Class,
-    instrs: &[Instr],
+    starts: &Starts,
     cur: &mut Cur,
     types: &mut Items<MapType>,
 ) -> Result<(), CodeFault>
-    ensures { GivesBy is_free (λ _. types.new) result cur.new (onto (map_type_at class.now.pool instrs.now) types.old cur.old) }
+    ensures { GivesBy is_free (λ _. types.new) result cur.new (onto (map_type_at class.now.pool starts.now) types.old cur.old) }
 {
-    types.push(read_type(alloc, class, instrs, cur)?)?;
+    types.push(read_type(alloc, class, starts, cur)?)?;
     Ok(())
 }
 
@@ -100,15 +100,15 @@ fn type_onto(
 pub fn read_types(
     alloc: Global,
     class: &Class,
-    instrs: &[Instr],
+    starts: &Starts,
     count: u16,
     cur: &mut Cur,
 ) -> Result<Items<MapType>, CodeFault>
-    ensures { Gives is_free result cur.new (map_types_at class.now.pool instrs.now count cur.old) }
+    ensures { Gives is_free result cur.new (map_types_at class.now.pool starts.now count cur.old) }
 {
     let mut types = Items::new(alloc);
     for _ in 0..count {
-        type_onto(alloc, class, instrs, cur, &mut types)?;
+        type_onto(alloc, class, starts, cur, &mut types)?;
     }
     Ok(types)
 }
@@ -118,11 +118,11 @@ pub fn read_types(
 pub fn read_counted(
     alloc: Global,
     class: &Class,
-    instrs: &[Instr],
+    starts: &Starts,
     cur: &mut Cur,
 ) -> Result<Items<MapType>, CodeFault>
-    ensures { Gives is_free result cur.new (counted_types_at class.now.pool instrs.now cur.old) }
+    ensures { Gives is_free result cur.new (counted_types_at class.now.pool starts.now cur.old) }
 {
     let count = cur.u16()?;
-    read_types(alloc, class, instrs, count, cur)
+    read_types(alloc, class, starts, count, cur)
 }
