@@ -2,16 +2,14 @@
 
 ghost use Rattle.std.specs.Prelude.{◌≡◌, ◌+◌, ◌≤◌, ◌^◌, length, IfOk, IsOkUnless};
 ghost use Rattle.nr_base.specs.Clauses.{GivesWhole, GivesWholeBy};
-ghost use Rattle.nr_code.specs.Faults.{is_free};
-ghost use Rattle.nr_code.specs.Checks.{handler_step, handlers_checked, is_handler};
+ghost use Rattle.nr_instrs.specs.Faults.{is_free};
+ghost use Rattle.nr_code.specs.HandlerChecks.{handler_step, handlers_checked, is_handler};
 
-use crate::fault::CodeFault;
-use crate::pool::is_class;
-use crate::start::Starts;
+use nr_instrs::{CodeFault, Starts, is_class};
 use nr_prog::{Class, Handler};
 use std::alloc::Global;
 
-#[tactic(auto, unfolding(crate::specs::Checks::is_handler))]
+#[tactic(auto, unfolding(crate::specs::HandlerChecks::is_handler))]
 fn is_in_order(
     alloc: Global,
     class: &Class,
@@ -37,7 +35,7 @@ fn is_in_order(
     is_class(alloc, class, handler.catch_type)
 }
 
-#[tactic(auto, unfolding(crate::specs::Checks::handler_step))]
+#[tactic(auto, unfolding(crate::specs::HandlerChecks::handler_step))]
 fn check_handler(
     alloc: Global,
     class: &Class,
@@ -56,7 +54,7 @@ fn check_handler(
 }
 
 /// Looks at each handler, in order, in code of so many bytes.
-#[tactic(auto, using(crate::proofs::Walks::goes_on, crate::proofs::Walks::ends), unfolding(crate::specs::Checks::handlers_checked))]
+#[tactic(auto, using(nr_instrs::proofs::Walks::goes_on, nr_instrs::proofs::Walks::ends), unfolding(crate::specs::HandlerChecks::handlers_checked))]
 pub fn check_handlers(
     alloc: Global,
     class: &Class,

@@ -2,7 +2,7 @@
 
 ghost use Rattle.std.specs.Prelude.{◌≡◌, ◌<◌, ◌^◌, All, [], length, Ok, Some, IfOk, IfSome, IsOkUnless, IsSome, slice_get};
 ghost use Rattle.nr_base.specs.Clauses.{GivesWhole};
-ghost use Rattle.nr_code.specs.Faults.{is_free};
+ghost use Rattle.nr_instrs.specs.Faults.{is_free};
 ghost use Rattle.nr_prog.specs.BodyText.{CodeAs, IsBody, code_at};
 ghost use Rattle.nr_prog.specs.declared.member.Method.{Method as MethodView};
 ghost use Rattle.nr_prog.specs.declared.member.Code.{Code as CodeView};
@@ -11,40 +11,14 @@ ghost use Rattle.nr_base.specs.Grammar.{IsBytes};
 ghost use Rattle.nr_prog.specs.Form.{IsFormed, IsMethodFormed};
 ghost use Rattle.nr_prog.specs.Pool.{IsText};
 ghost use Rattle.nr_prog.specs.declared.body.whole.Body.{Body as BodyView};
-ghost use Rattle.nr_code.specs.Decoding.{body_of, instrs_of, maps_of, raws_of};
-ghost use Rattle.nr_code.specs.Orders.{IsInOrder};
+ghost use Rattle.nr_code.specs.Decoding.{body_of, maps_of};
 
-use crate::fault::CodeFault;
 use crate::handler::check_handlers;
-use crate::instruction::read_instrs;
 use crate::maps::{entry_locals, read_frames};
-use crate::raw::RawInstr;
-use crate::start::Starts;
-use crate::target::settle_all;
-use nr_base::{Cur, Items};
-use nr_prog::{Body, Class, Code, FrameMap, Handler, Instr, Method};
+use nr_base::Items;
+use nr_instrs::{CodeFault, Starts, decode_instrs};
+use nr_prog::{Body, Class, Code, FrameMap, Handler, Method};
 use std::alloc::Global;
-
-#[tactic(auto, unfolding(crate::specs::Decoding::raws_of))]
-fn raws(alloc: Global, class: &Class, bytes: &[u8]) -> Result<Items<RawInstr>, CodeFault>
-    requires { length bytes.now < 2 ^ 16 }
-    ensures { GivesWhole is_free result (raws_of class.now.pool bytes.now) }
-{
-    let mut cur = Cur::new(bytes);
-    read_instrs(alloc, class, &mut cur)
-}
-
-#[tactic(auto, unfolding(crate::specs::Decoding::instrs_of))]
-fn instrs(alloc: Global, class: &Class, bytes: &[u8]) -> Result<Items<Instr>, CodeFault>
-    requires sized { length bytes.now < 2 ^ 16 }
-    requires texts { All IsText class.now.pool }
-    requires bytes { IsBytes bytes.now }
-    ensures order { IfOk result IsInOrder }
-    ensures exact { GivesWhole is_free result (instrs_of class.now.pool bytes.now) }
-{
-    let raws = raws(alloc, class, bytes)?;
-    settle_all(alloc, raws)
-}
 
 #[tactic(auto, unfolding(crate::specs::Decoding::maps_of))]
 fn maps(
@@ -80,12 +54,10 @@ fn copied(alloc: Global, handlers: &[Handler]) -> Result<Items<Handler>, CodeFau
 /// The code of a method, by its reading.
 #[tactic(auto, unfolding(crate::specs::Decoding::body_of))]
 fn body(alloc: Global, class: &Class, method: &Method, code: &Code) -> Result<Body, CodeFault>
-    requires sized { IsSized code.now }
-    requires texts { All IsText class.now.pool }
-    requires bytes { IsBytes code.now.bytes }
+    requires { IsSized code.now }
     ensures { GivesWhole is_free result (body_of class.now method.now code.now) }
 {
-    let instrs = instrs(alloc, class, code.bytes.as_slice())?;
+    let instrs = decode_instrs(alloc, class, code.bytes.as_slice())?;
     let starts = Starts::of(instrs.as_slice());
     let handlers = code.handlers.as_slice();
     check_handlers(alloc, class, code.bytes.len(), &starts, handlers)?;

@@ -4,14 +4,13 @@ ghost use Rattle.std.specs.Prelude.{◌≡◌, ◌≤◌, ◌<◌, ◌^◌, IfOk
 ghost use Rattle.nr_base.specs.Clauses.{Gives, GivesBy, GivesWhole};
 ghost use Rattle.nr_base.specs.Reader.{times};
 ghost use Rattle.nr_prog.specs.BodyMaps.{at_entry, dropped as dropped_by, has_one_operand as holds_one, is_frame_tag as is_legal};
-ghost use Rattle.nr_code.specs.Faults.{is_free};
+ghost use Rattle.nr_instrs.specs.Faults.{is_free};
 ghost use Rattle.nr_code.specs.MapReading.{delta_at, frame_at, frame_types_at, frames_of, full_at, maps_in, placed_at};
 
 use super::copies::{copied, joined};
 use super::types::{read_counted, read_type, read_types};
-use crate::fault::CodeFault;
-use crate::start::Starts;
 use nr_base::{Cur, Items};
+use nr_instrs::{CodeFault, Starts};
 use nr_prog::{Class, FrameMap, MapType};
 use std::alloc::Global;
 
@@ -145,7 +144,7 @@ fn read_frame(
     read_placed(alloc, class, starts, at, tag, offset, cur, locals, maps)
 }
 
-#[tactic(auto, using(nr_base::proofs::Loops::goes_on, nr_base::proofs::Loops::is_done, crate::proofs::Exits::fails_in))]
+#[tactic(auto, using(nr_base::proofs::Loops::goes_on, nr_base::proofs::Loops::is_done, nr_instrs::proofs::Exits::fails_in))]
 fn read_items(
     alloc: Global,
     class: &Class,

@@ -3,13 +3,11 @@
 ghost use Rattle.std.specs.Prelude.{◌≡◌, [], IfOk, IsOkUnless, option_copied};
 ghost use Rattle.nr_base.specs.Clauses.{Gives, GivesBy};
 ghost use Rattle.nr_base.specs.Reader.{onto, times};
-ghost use Rattle.nr_code.specs.Faults.{is_free};
+ghost use Rattle.nr_instrs.specs.Faults.{is_free};
 ghost use Rattle.nr_code.specs.MapReading.{class_given, class_type_at, counted_types_at, map_type_at, map_types_at, type_by_at, uninit_at};
 
-use crate::fault::CodeFault;
-use crate::pool::class_type;
-use crate::start::Starts;
 use nr_base::{Cur, Desc, Items};
+use nr_instrs::{CodeFault, Starts, class_type};
 use nr_prog::{Class, MapType};
 use std::alloc::Global;
 
@@ -96,7 +94,7 @@ fn type_onto(
 }
 
 /// So many types.
-#[tactic(auto, using(nr_base::proofs::Loops::goes_on, nr_base::proofs::Loops::is_done, crate::proofs::Exits::fails_in), unfolding(crate::specs::MapReading::map_types_at))]
+#[tactic(auto, using(nr_base::proofs::Loops::goes_on, nr_base::proofs::Loops::is_done, nr_instrs::proofs::Exits::fails_in), unfolding(crate::specs::MapReading::map_types_at))]
 pub fn read_types(
     alloc: Global,
     class: &Class,

@@ -1,6 +1,6 @@
 use Rattle.std.proofs.lemmas.Result.{err_from_is_err_and}
-use Rattle.nr_code.specs.Checks.{handler_step, handlers_checked}
-use Rattle.nr_code.proofs.Walks.{fails_in}
+use Rattle.nr_code.specs.HandlerChecks.{handler_step, handlers_checked}
+use Rattle.nr_instrs.proofs.Walks.{fails_in}
 use Rattle.nr_code.proofs.handler.check_handlers.Goals as goal
 
 pub returns-in_err-check_handler : goal.returns-in_err-check_handler

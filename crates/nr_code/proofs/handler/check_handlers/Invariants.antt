@@ -1,5 +1,6 @@
 use Rattle.std.proofs.Common.{◌≡◌, drop}
-use Rattle.nr_code.specs.Checks.{handler_step, walk}
+use Rattle.nr_instrs.specs.Checks.{walk}
+use Rattle.nr_code.specs.HandlerChecks.{handler_step}
 use Rattle.nr_code.proofs.handler.check_handlers.Given as goal
 
 abbrev pub invariant-loop-place : goal.invariant-loop-place
