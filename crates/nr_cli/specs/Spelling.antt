@@ -5,8 +5,8 @@ use Rattle.nr_prog.specs.declared.fault.FormFault.{FormFault}
 use Rattle.nr_prog.specs.declared.fault.FormFault.TheVariants as form
 use Rattle.nr_classread.specs.declared.fault.ClassFault.{ClassFault}
 use Rattle.nr_classread.specs.declared.fault.ClassFault.TheVariants as faults
-use Rattle.nr_code.specs.declared.fault.CodeFault.{CodeFault}
-use Rattle.nr_code.specs.declared.fault.CodeFault.TheVariants as code_faults
+use Rattle.nr_code.specs.CodeFault.{CodeFault}
+use Rattle.nr_code.specs.CodeFault.TheVariants as code_faults
 use Rattle.nr_cli.specs.declared.ending.LoadFault.{LoadFault}
 use Rattle.nr_cli.specs.declared.ending.LoadFault.TheVariants.{Read, Code, OutOfThinForm, FileTooLong, FolderTooLong}
 

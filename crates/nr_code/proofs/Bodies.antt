@@ -1,18 +1,14 @@
 -- What is decoded is the code of the method, and the code of a method is decoded.
-use Rattle.std.proofs.Common.{◌≡◌, ℕ, ◌+◌, ◌<◌, ◌^◌, true, eqb, List, [], ◌∷◌, ◌++◌, map, length, get_or, take, Option, Some, None, Result, Ok, Err, refl, sym, ap, subst, ◌∙◌, append_assoc, arith}
+use Rattle.std.proofs.Common.{◌≡◌, ℕ, ◌+◌, ◌<◌, ◌^◌, List, [], ◌∷◌, ◌++◌, length, get_or, take, Option, Some, None, Result, Ok, Err, refl, sym, ap, subst, ◌∙◌, append_assoc, arith}
 use Rattle.std.specs.Prelude.{IfOk, IfSome, slice_get}
-use Rattle.std.proofs.Common.{inl, inr}
-use Rattle.std.specs.List.{All, AllByRecursion, list_any}
-use Rattle.std.proofs.lemmas.Bool.{eqb-true}
-use Rattle.std.proofs.lemmas.List.{length-append, append-nil, take_more}
-use Rattle.std.proofs.lemmas.List.Elements.{All-nil, All-cons, All-head, All-tail}
-use Rattle.nr_base.specs.Place.{Place, start_of}
-use Rattle.nr_base.specs.Reader.{onto, to_end, map_fault}
+use Rattle.std.specs.List.{All}
+use Rattle.std.proofs.lemmas.List.{append-nil, take_more}
+use Rattle.std.proofs.lemmas.List.Elements.{All-head, All-tail}
+use Rattle.nr_base.specs.Reader.{map_fault}
 use Rattle.nr_base.specs.Grammar.{IsBytes}
 use Rattle.nr_base.specs.Clauses.{GivesWhole, Fails}
 use Rattle.nr_base.proofs.Exits.{fails_on}
 use Rattle.nr_base.proofs.Laws.{ok_is, whole_found, whole_only}
-use Rattle.nr_prog.specs.declared.pool.PoolEntry.{PoolEntry}
 use Rattle.nr_prog.specs.declared.member.Method.{Method}
 use Rattle.nr_prog.specs.declared.member.Code.{Code}
 use Rattle.nr_prog.specs.declared.parts.ClassParts.{ClassParts}
@@ -22,102 +18,24 @@ use Rattle.nr_prog.specs.declared.body.whole.Body.{Body}
 use Rattle.nr_prog.specs.declared.body.loaded.Loaded.{Loaded}
 use Rattle.nr_prog.specs.Pool.{IsText}
 use Rattle.nr_prog.specs.Form.{IsFormed, IsMethodFormed}
-use Rattle.nr_prog.specs.BodyStarts.{is_start, targets_of}
 use Rattle.nr_prog.specs.BodyMaps.{Mapped, frames, IsMapped}
-use Rattle.nr_prog.specs.BodyText.{instrs, HasTargets, IsBody, CodeAs, BodyFor, EachBody, HasBodies}
-use Rattle.nr_code.specs.declared.raw.RawInstr.{RawInstr}
-use Rattle.nr_code.specs.declared.fault.CodeFault.{CodeFault}
+use Rattle.nr_prog.specs.BodyText.{instrs, IsBody, CodeAs, BodyFor, EachBody, HasBodies}
+use Rattle.nr_instrs.specs.declared.fault.CodeFault.{CodeFault}
 use Rattle.nr_code.specs.declared.fault.LoadFault.{LoadFault}
-use Rattle.nr_code.specs.declared.fault.CodeFault.TheVariants as faults
-use Rattle.nr_code.specs.Faults.{is_free, is_load_free, of_code}
-use Rattle.nr_code.specs.InstrReading.{instr_at}
-use Rattle.nr_code.specs.Checks.{walk, starts_of, settled, settled_all, handlers_checked}
+use Rattle.nr_instrs.specs.declared.fault.CodeFault.TheVariants as faults
+use Rattle.nr_instrs.specs.Faults.{is_free}
+use Rattle.nr_code.specs.LoadFaults.{is_load_free, of_code}
+use Rattle.nr_instrs.specs.Checks.{walk}
+use Rattle.nr_code.specs.HandlerChecks.{handlers_checked}
 use Rattle.nr_code.specs.MapReading.{entry_of, frames_of, maps_in}
-use Rattle.nr_code.specs.Decoding.{read_of, raws_of, instrs_of, maps_of, body_of, body_in, body_step, bodies_of}
-use Rattle.nr_code.proofs.Facts.{or_is}
+use Rattle.nr_instrs.specs.Decoding.{instrs_of}
+use Rattle.nr_code.specs.Decoding.{maps_of, body_of, body_in, body_step, bodies_of}
 use Rattle.nr_code.proofs.Sizes.{IsAt, slice_at, same_method, same_code, code_len}
-use Rattle.nr_code.proofs.Advances.{instr_moves}
-use Rattle.nr_code.proofs.Raws.{raw_instr, instr_from, instr_law}
-use Rattle.nr_code.proofs.Texts.{args_of}
-use Rattle.nr_code.proofs.Settling.{Maps, then_ok, then_gives, walked, walks, AllIn, AreBelow}
-use Rattle.nr_code.proofs.ToEnd.{EachAt, ReadsAt, to_end_found, to_end_only}
-use Rattle.nr_code.proofs.Instrs.{made_of, starts_in, start_is, to_all, of_all, all_found, all_read, all_settle}
+use Rattle.nr_instrs.proofs.Settling.{then_ok, then_gives}
+use Rattle.nr_instrs.proofs.Codes.{starts_below, instrs_are, instrs_give}
 use Rattle.nr_code.proofs.Handlers.{ranges_are, ranges_pass}
 use Rattle.nr_code.proofs.Classes.{entry_is, entry_of_is}
 use Rattle.nr_code.proofs.MapLaws.{StartBelow, frames_law}
-
--- ---- instructions as they are read
-
-reads_at : (pool : List PoolEntry) → All IsText pool → ReadsAt (instr_from pool) (raw_instr pool)
-unfolding instr_at
-reads_at pool all = record { each = λ at. instr_law pool at all; takes = (instr_moves pool).takes }
-
-read_ok : (r : Result (List RawInstr × Place) CodeFault) (raws : List RawInstr) → read_of r ≡ Ok raws → (q : Place) × (r ≡ Ok (raws, q))
-read_ok (Ok x) raws e = let is : x.0 ≡ raws = cc in (x.1, ap (λ z. Ok (z, x.1)) is)
-read_ok (Err d) raws e = absurd cc
-
-raws_are : (pool : List PoolEntry) (bytes : List ℕ) (raws : List RawInstr) → All IsText pool → IsBytes bytes → raws_of pool bytes ≡ Ok raws → EachAt (raw_instr pool) 0 raws bytes
-unfolding raws_of instr_at
-raws_are pool bytes raws all fits e =
-    let r = read_ok (to_end (onto (instr_at pool)) [] (start_of bytes)) raws e in
-    to_end_found (reads_at pool all) raws bytes r.0 fits r.1
-
-raws_give : (pool : List PoolEntry) (bytes : List ℕ) (raws : List RawInstr) → All IsText pool → EachAt (raw_instr pool) 0 raws bytes → raws_of pool bytes ≡ Ok raws
-unfolding raws_of instr_at
-raws_give pool bytes raws all g = ap read_of (to_end_only (reads_at pool all) raws bytes g)
-
--- ---- where instructions start
-
-start_below : (pool : List PoolEntry) (at : ℕ) (is : List Instr) (text : List ℕ) (t : ℕ) → instrs pool at is text → is_start is t ≡ true → t < at + length text
-unfolding is_start
-start_below pool at [] text t g e = absurd cc
-start_below pool at (i ∷ is) text t g e =
-    let whole : length text ≡ length (g.0 ++ g.1) = ap length g.4 in
-    let parts = length-append g.0 g.1 in
-    let front : length g.0 ≡ length (i.row.code ∷ g.2.spelled.0) = ap length g.2.spelled.1 in
-    elim (or_is (eqb i.at t) (list_any (λ j. eqb j.at t) is) (λ h. h) (λ h. h) e) [
-      | inl h ↦ omega (arith, whole, parts, front, eqb-true i.at t h, g.2.placed)
-      | inr h ↦ omega (arith, whole, parts, start_below pool (at + length g.0) is g.1 t g.3 h)
-    ]
-
-pub starts_below : (pool : List PoolEntry) (is : List Instr) (bytes : List ℕ) → length bytes < 2 ^ 16 → instrs pool 0 is bytes → StartBelow is
-starts_below pool is bytes len g t e = omega (arith, len, start_below pool 0 is bytes t g e)
-
--- ---- instructions with their targets
-
-has_all : (is ks : List Instr) (starts : List ℕ) → starts ≡ starts_in is → AllByRecursion (λ (i : Instr). AllIn starts (targets_of i.args)) ks → All (HasTargets is) ks
-has_all is [] starts e h = All-nil (HasTargets is)
-has_all is (k ∷ ks) starts e h = All-cons (HasTargets is) k ks (to_all is starts (targets_of k.args) e h.0) (has_all is ks starts e h.1)
-
-pub instrs_are : (pool : List PoolEntry) (bytes : List ℕ) (is : List Instr) → All IsText pool → IsBytes bytes → instrs_of pool bytes ≡ Ok is → instrs pool 0 is bytes × All (HasTargets is) is
-unfolding instrs_of settled_all
-instrs_are pool bytes is all fits e =
-    let r = then_ok (raws_of pool bytes) settled_all is e in
-    let w = walked (settled (starts_of r.value)) r.value [] is r.gave in
-    let m : Maps (settled (starts_of r.value)) r.value is = subst (Maps (settled (starts_of r.value)) r.value) (sym w.joined) w.each in
-    let f = all_found pool (starts_of r.value) 0 r.value is bytes (raws_are pool bytes r.value all fits r.was) m in
-    (f.spelled, has_all is is (starts_of r.value) f.same f.all)
-
-starts_made : (raws : List RawInstr) → starts_of raws ≡ starts_in (map made_of raws)
-starts_made [] = refl
-starts_made (i ∷ raws) = ap (λ s. i.at ∷ s) (starts_made raws)
-
-all_made : (is : List Instr) (starts : List ℕ) (raws : List RawInstr) → starts ≡ starts_in is → All (HasTargets is) (map made_of raws) → AllByRecursion (λ (i : RawInstr). AllIn starts (targets_of (args_of i.operands))) raws
-all_made is starts [] e h = tt
-all_made is starts (i ∷ raws) e h =
-    (of_all is starts (targets_of (args_of i.operands)) e (All-head (HasTargets is) (made_of i) (map made_of raws) h), all_made is starts raws e (All-tail (HasTargets is) (made_of i) (map made_of raws) h))
-
-pub instrs_give : (pool : List PoolEntry) (bytes : List ℕ) (is : List Instr) → All IsText pool → length bytes < 2 ^ 16 → instrs pool 0 is bytes → All (HasTargets is) is → instrs_of pool bytes ≡ Ok is
-unfolding instrs_of settled_all
-instrs_give pool bytes is all len g targets =
-    let r = all_read pool 0 is bytes g in
-    let starts = starts_of r.raws in
-    let same : starts_of r.raws ≡ starts_in is = starts_made r.raws ∙ ap starts_in (sym r.are) in
-    let below : AreBelow (starts_of r.raws) = λ t h. starts_below pool is bytes len g t (sym (start_is is (starts_of r.raws) t same) ∙ h) in
-    let made = all_made is (starts_of r.raws) r.raws same (subst (All (HasTargets is)) r.are targets) in
-    let m = all_settle (starts_of r.raws) r.raws below r.is_pos made in
-    then_gives (raws_of pool bytes) settled_all r.raws is (raws_give pool bytes r.raws all r.spelled)
-    (walks (settled (starts_of r.raws)) r.raws [] (map made_of r.raws) m ∙ ap (λ z. Ok z) (sym r.are))
 
 -- ---- frame maps
 

@@ -28,9 +28,9 @@ use Rattle.nr_prog.specs.Form as form
 use Rattle.nr_prog.specs.BodyNames.{class_text_in, class_text_at, NamesClassBy, object, IsClassOf}
 use Rattle.nr_prog.specs.BodyMaps.{class_type, type_of, this_type, receiver, IsEntry}
 use Rattle.nr_prog.proofs.LegalLaws.{class_is, of_class, method_only}
-use Rattle.nr_code.specs.NameTests.{array_in, class_desc, class_desc_at}
+use Rattle.nr_instrs.specs.NameTests.{array_in, class_desc, class_desc_at}
 use Rattle.nr_code.specs.MapReading.{class_given, types_of, params_of, receiver_of, entry_of}
-use Rattle.nr_code.proofs.Facts.{desc_is, reads_desc, class_bytes}
+use Rattle.nr_instrs.proofs.Facts.{desc_is, reads_desc, class_bytes}
 
 -- ---- the class that bytes name
 

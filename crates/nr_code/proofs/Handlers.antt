@@ -9,11 +9,12 @@ use Rattle.nr_prog.specs.declared.body.instruction.Instr.{Instr}
 use Rattle.nr_prog.specs.Pool.{IsText}
 use Rattle.nr_prog.specs.BodyStarts.{is_start}
 use Rattle.nr_prog.specs.BodyText.{IsHandler}
-use Rattle.nr_code.specs.declared.fault.CodeFault.TheVariants as faults
-use Rattle.nr_code.specs.Checks.{walk, is_handler, handler_step, handlers_checked}
-use Rattle.nr_code.proofs.Facts.{Decides, both, either, equal, at_most, any_class}
-use Rattle.nr_code.proofs.OperandLaws.{is_true}
-use Rattle.nr_code.proofs.Settling.{then_ok, then_gives}
+use Rattle.nr_instrs.specs.declared.fault.CodeFault.TheVariants as faults
+use Rattle.nr_instrs.specs.Checks.{walk}
+use Rattle.nr_code.specs.HandlerChecks.{is_handler, handler_step, handlers_checked}
+use Rattle.nr_instrs.proofs.Facts.{Decides, both, either, equal, at_most, any_class}
+use Rattle.nr_instrs.proofs.OperandLaws.{is_true}
+use Rattle.nr_instrs.proofs.Settling.{then_ok, then_gives}
 
 decides : (pool : List PoolEntry) (len : ℕ) (is : List Instr) (h : Handler) → All IsText pool → Decides (is_handler pool len is h) (IsHandler pool len is h)
 unfolding is_handler

@@ -17,10 +17,10 @@ use Rattle.nr_prog.specs.Pool.{IsText}
 use Rattle.nr_prog.specs.BodyOperands.{when}
 use Rattle.nr_prog.specs.BodyStarts.{is_start, is_new}
 use Rattle.nr_prog.specs.BodyMaps.{class_type, type_by, map_type, map_types, counted_types, is_frame_tag, dropped, delta, has_one_operand, frame_types, Mapped, with_map, frame, at_entry, frames}
-use Rattle.nr_code.specs.Faults.{of_short}
+use Rattle.nr_instrs.specs.Faults.{of_short}
 use Rattle.nr_code.specs.MapReading.{u1_at, u2_at, class_type_at, uninit_at, type_by_at, map_type_at, map_types_at, counted_types_at, delta_at, full_at, frame_types_at, starts_at, placed_at, frame_at, frames_at}
-use Rattle.nr_code.proofs.Facts.{Decides, both, at_most}
-use Rattle.nr_code.proofs.OperandLaws.{guard_law, is_true}
+use Rattle.nr_instrs.proofs.Facts.{Decides, both, at_most}
+use Rattle.nr_instrs.proofs.OperandLaws.{guard_law, is_true}
 use Rattle.nr_code.proofs.Classes.{class_type_law}
 
 one_law : Reads u1_at (number w8)

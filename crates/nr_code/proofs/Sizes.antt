@@ -12,7 +12,7 @@ use Rattle.nr_prog.specs.Members.{is_plain, is_code_sized}
 use Rattle.nr_prog.specs.Form.{IsFormed, IsMethodFormed, IsWithinBounds, handler_count}
 use Rattle.nr_code.specs.declared.fault.LoadFault.{LoadFault}
 use Rattle.nr_code.specs.Bounds.{HasShortMaps, AreShort, IsSized, IsShort}
-use Rattle.nr_code.specs.Checks.{then_on}
+use Rattle.nr_instrs.specs.Checks.{then_on}
 use Rattle.nr_code.specs.Decoding.{body_in, body_step}
 
 sized : (m : Method) → is_plain m ≡ true → is_code_sized m.code ≡ true

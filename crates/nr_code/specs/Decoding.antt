@@ -1,36 +1,22 @@
 -- Decoding the code of a method, and of all methods of a class, with the first fault: instructions, then targets, then exception handlers, then frame
 -- maps. The project's own rule.
 use Rattle.std.specs.Prelude.{ℕ, List, [], ◌∷◌, ◌++◌, length, Option, Some, None, Result, Ok, Err}
-use Rattle.nr_base.specs.Place.{Place, start_of}
-use Rattle.nr_base.specs.Reader.{onto, to_end, map_fault}
-use Rattle.nr_prog.specs.declared.pool.PoolEntry.{PoolEntry}
+use Rattle.nr_base.specs.Reader.{map_fault}
 use Rattle.nr_prog.specs.declared.member.Method.{Method}
 use Rattle.nr_prog.specs.declared.member.Code.{Code}
 use Rattle.nr_prog.specs.declared.parts.ClassParts.{ClassParts}
 use Rattle.nr_prog.specs.declared.body.instruction.Instr.{Instr}
 use Rattle.nr_prog.specs.declared.body.frame_map.FrameMap.{FrameMap}
 use Rattle.nr_prog.specs.declared.body.whole.Body.{Body}
-use Rattle.nr_code.specs.declared.raw.RawInstr.{RawInstr}
-use Rattle.nr_code.specs.declared.fault.CodeFault.{CodeFault}
+use Rattle.nr_instrs.specs.declared.fault.CodeFault.{CodeFault}
 use Rattle.nr_prog.specs.declared.body.loaded.Loaded.{Loaded}
 use Rattle.nr_classread.specs.ClassReading.{class_of}
 use Rattle.nr_code.specs.declared.fault.LoadFault.{LoadFault}
-use Rattle.nr_code.specs.Faults.{of_class, of_code}
-use Rattle.nr_code.specs.InstrReading.{instr_at}
-use Rattle.nr_code.specs.Checks.{then_on, walk, settled_all, handlers_checked}
+use Rattle.nr_code.specs.LoadFaults.{of_class, of_code}
+use Rattle.nr_instrs.specs.Checks.{then_on, walk}
+use Rattle.nr_instrs.specs.Decoding.{instrs_of}
+use Rattle.nr_code.specs.HandlerChecks.{handlers_checked}
 use Rattle.nr_code.specs.MapReading.{entry_of, frames_of, maps_in}
-
-abbrev pub read_of : Result (List RawInstr × Place) CodeFault → Result (List RawInstr) CodeFault
-read_of (Ok x) = Ok x.0
-read_of (Err e) = Err e
-
--- the instructions as they are read
-unfoldable pub raws_of : List PoolEntry → List ℕ → Result (List RawInstr) CodeFault
-raws_of pool bytes = read_of (to_end (onto (instr_at pool)) [] (start_of bytes))
-
--- the instructions with their targets
-unfoldable pub instrs_of : List PoolEntry → List ℕ → Result (List Instr) CodeFault
-instrs_of pool bytes = then_on (raws_of pool bytes) settled_all
 
 unfoldable pub maps_of : ClassParts → Method → List Instr → Option (List ℕ) → Result (List FrameMap) CodeFault
 maps_of c m is None = Ok []

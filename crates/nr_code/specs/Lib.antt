@@ -1,9 +1,7 @@
-pub mod Faults
+pub use Rattle.nr_instrs.specs.Faults
+pub use Rattle.nr_instrs.specs.declared.fault.CodeFault
+pub mod LoadFaults
 pub mod Bounds
-pub mod NameTests
-pub mod Numbers
-pub mod OperandReading
-pub mod InstrReading
-pub mod Checks
+pub mod HandlerChecks
 pub mod MapReading
 pub mod Decoding

@@ -20,11 +20,11 @@ use Rattle.nr_prog.specs.Pool.{text_at}
 use Rattle.nr_prog.specs.Members.{is_static}
 use Rattle.nr_prog.specs.BodyStarts.{is_start, is_new}
 use Rattle.nr_prog.specs.BodyMaps.{Mapped, is_frame_tag, dropped, has_one_operand, with_map, at_entry, type_of, this_type}
-use Rattle.nr_code.specs.declared.fault.CodeFault.{CodeFault}
-use Rattle.nr_code.specs.declared.fault.CodeFault.TheVariants as faults
-use Rattle.nr_code.specs.Faults.{of_short}
-use Rattle.nr_code.specs.Numbers.{Read}
-use Rattle.nr_code.specs.NameTests.{class_desc_at}
+use Rattle.nr_instrs.specs.declared.fault.CodeFault.{CodeFault}
+use Rattle.nr_instrs.specs.declared.fault.CodeFault.TheVariants as faults
+use Rattle.nr_instrs.specs.Faults.{of_short}
+use Rattle.nr_instrs.specs.Numbers.{Read}
+use Rattle.nr_instrs.specs.NameTests.{class_desc_at}
 
 unfoldable pub u1_at : Read ℕ
 u1_at = with_fault of_short (number_at w8)

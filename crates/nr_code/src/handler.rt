@@ -2,33 +2,31 @@
 
 ghost use Rattle.std.specs.Prelude.{◌≡◌, ◌+◌, ◌≤◌, ◌^◌, length, IfOk, IsOkUnless};
 ghost use Rattle.nr_base.specs.Clauses.{GivesWhole, GivesWholeBy};
-ghost use Rattle.nr_code.specs.Faults.{is_free};
-ghost use Rattle.nr_code.specs.Checks.{handler_step, handlers_checked, is_handler};
+ghost use Rattle.nr_instrs.specs.Faults.{is_free};
+ghost use Rattle.nr_code.specs.HandlerChecks.{handler_step, handlers_checked, is_handler};
 
-use crate::fault::CodeFault;
-use crate::pool::is_class;
-use crate::start::is_start;
-use nr_prog::{Class, Handler, Instr};
+use nr_instrs::{CodeFault, Starts, is_class};
+use nr_prog::{Class, Handler};
 use std::alloc::Global;
 
-#[tactic(auto, unfolding(crate::specs::Checks::is_handler))]
+#[tactic(auto, unfolding(crate::specs::HandlerChecks::is_handler))]
 fn is_in_order(
     alloc: Global,
     class: &Class,
     len: usize,
-    instrs: &[Instr],
+    starts: &Starts,
     handler: &Handler,
 ) -> Result<bool, CodeFault>
-    ensures order { IfOk result (λ order. order ≡ is_handler class.now.pool len instrs.now handler.now) }
+    ensures order { IfOk result (λ order. order ≡ is_handler class.now.pool len starts.now handler.now) }
     ensures err { IsOkUnless result CodeFault.NoMemory }
 {
-    if !is_start(instrs, u32::from(handler.start)) {
+    if !starts.is_start(handler.start) {
         return Ok(false);
     }
-    if !is_start(instrs, u32::from(handler.end)) && usize::from(handler.end) != len {
+    if !starts.is_start(handler.end) && usize::from(handler.end) != len {
         return Ok(false);
     }
-    if handler.start >= handler.end || !is_start(instrs, u32::from(handler.handler)) {
+    if handler.start >= handler.end || !starts.is_start(handler.handler) {
         return Ok(false);
     }
     if handler.catch_type == 0 {
@@ -37,18 +35,18 @@ fn is_in_order(
     is_class(alloc, class, handler.catch_type)
 }
 
-#[tactic(auto, unfolding(crate::specs::Checks::handler_step))]
+#[tactic(auto, unfolding(crate::specs::HandlerChecks::handler_step))]
 fn check_handler(
     alloc: Global,
     class: &Class,
     len: usize,
-    instrs: &[Instr],
+    starts: &Starts,
     place: u16,
     handler: &Handler,
 ) -> Result<(), CodeFault>
-    ensures { GivesWholeBy is_free (λ _. place + 1) result (handler_step class.now.pool len instrs.now place handler.now) }
+    ensures { GivesWholeBy is_free (λ _. place + 1) result (handler_step class.now.pool len starts.now place handler.now) }
 {
-    if is_in_order(alloc, class, len, instrs, handler)? {
+    if is_in_order(alloc, class, len, starts, handler)? {
         Ok(())
     } else {
         Err(CodeFault::HandlerRange(place))
@@ -56,19 +54,19 @@ fn check_handler(
 }
 
 /// Looks at each handler, in order, in code of so many bytes.
-#[tactic(auto, using(crate::proofs::Walks::goes_on, crate::proofs::Walks::ends), unfolding(crate::specs::Checks::handlers_checked))]
+#[tactic(auto, using(nr_instrs::proofs::Walks::goes_on, nr_instrs::proofs::Walks::ends), unfolding(crate::specs::HandlerChecks::handlers_checked))]
 pub fn check_handlers(
     alloc: Global,
     class: &Class,
     len: usize,
-    instrs: &[Instr],
+    starts: &Starts,
     handlers: &[Handler],
 ) -> Result<(), CodeFault>
     requires { length handlers.now ≤ 2 ^ 16 }
-    ensures { GivesWholeBy is_free (λ _. length handlers.now) result (handlers_checked class.now.pool len instrs.now handlers.now) }
+    ensures { GivesWholeBy is_free (λ _. length handlers.now) result (handlers_checked class.now.pool len starts.now handlers.now) }
 {
     for (place, handler) in handlers.iter().enumerate() {
-        check_handler(alloc, class, len, instrs, place as u16, handler)?;
+        check_handler(alloc, class, len, starts, place as u16, handler)?;
     }
     Ok(())
 }

@@ -4,19 +4,13 @@
 
 mod fault;
 mod handler;
-mod instruction;
 mod load;
 mod maps;
-mod number;
-mod operands;
-mod pool;
-mod raw;
-mod start;
-mod target;
 mod whole;
 
-pub use fault::{CodeFault, LoadFault};
+pub use fault::LoadFault;
 pub use load::load_class;
+pub use nr_instrs::CodeFault;
 pub use whole::decode;
 
 #[cfg(test)]

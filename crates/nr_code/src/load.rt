@@ -8,14 +8,15 @@ ghost use Rattle.nr_prog.specs.declared.member.Method.{Method as MethodView};
 ghost use Rattle.nr_prog.specs.declared.body.whole.Body.{Body as BodyView};
 ghost use Rattle.nr_prog.specs.declared.body.loaded.Loaded.{Loaded as LoadedView};
 ghost use Rattle.nr_classread.specs.ClassText.{ReadsAs};
-ghost use Rattle.nr_code.specs.Faults.{is_load_free};
+ghost use Rattle.nr_code.specs.LoadFaults.{is_load_free};
 ghost use Rattle.nr_code.specs.Decoding.{bodies_of, body_in, body_step, loaded_of};
 ghost use Rattle.nr_code.specs.Bounds.{IsShort, AreShort};
 
-use crate::fault::{CodeFault, LoadFault};
+use crate::fault::LoadFault;
 use crate::whole::{decode_code, know_class};
 use nr_base::Items;
 use nr_classread::read_class;
+use nr_instrs::CodeFault;
 use nr_prog::{Body, Class, Loaded, Method};
 use std::alloc::Global;
 
@@ -60,7 +61,7 @@ fn body_onto(
     Ok(())
 }
 
-#[tactic(auto, using(crate::proofs::Walks::goes_on, crate::proofs::Walks::ends), unfolding(crate::specs::Decoding::bodies_of))]
+#[tactic(auto, using(nr_instrs::proofs::Walks::goes_on, nr_instrs::proofs::Walks::ends), unfolding(crate::specs::Decoding::bodies_of))]
 fn read_all(alloc: Global, class: &Class) -> Result<Items<Option<Body>>, LoadFault>
     requires { AreShort class.now }
     ensures found { IfOk result (λ bodies. HasBodies class.now bodies) }

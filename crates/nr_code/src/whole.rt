@@ -2,7 +2,7 @@
 
 ghost use Rattle.std.specs.Prelude.{◌≡◌, ◌<◌, ◌^◌, All, [], length, Ok, Some, IfOk, IfSome, IsOkUnless, IsSome, slice_get};
 ghost use Rattle.nr_base.specs.Clauses.{GivesWhole};
-ghost use Rattle.nr_code.specs.Faults.{is_free};
+ghost use Rattle.nr_instrs.specs.Faults.{is_free};
 ghost use Rattle.nr_prog.specs.BodyText.{CodeAs, IsBody, code_at};
 ghost use Rattle.nr_prog.specs.declared.member.Method.{Method as MethodView};
 ghost use Rattle.nr_prog.specs.declared.member.Code.{Code as CodeView};
@@ -11,52 +11,31 @@ ghost use Rattle.nr_base.specs.Grammar.{IsBytes};
 ghost use Rattle.nr_prog.specs.Form.{IsFormed, IsMethodFormed};
 ghost use Rattle.nr_prog.specs.Pool.{IsText};
 ghost use Rattle.nr_prog.specs.declared.body.whole.Body.{Body as BodyView};
-ghost use Rattle.nr_code.specs.Decoding.{body_of, instrs_of, maps_of, raws_of};
+ghost use Rattle.nr_code.specs.Decoding.{body_of, maps_of};
 
-use crate::fault::CodeFault;
 use crate::handler::check_handlers;
-use crate::instruction::read_instrs;
 use crate::maps::{entry_locals, read_frames};
-use crate::raw::RawInstr;
-use crate::target::settle_all;
-use nr_base::{Cur, Items};
-use nr_prog::{Body, Class, Code, FrameMap, Handler, Instr, Method};
+use nr_base::Items;
+use nr_instrs::{CodeFault, Starts, decode_instrs};
+use nr_prog::{Body, Class, Code, FrameMap, Handler, Method};
 use std::alloc::Global;
-
-#[tactic(auto, unfolding(crate::specs::Decoding::raws_of))]
-fn raws(alloc: Global, class: &Class, bytes: &[u8]) -> Result<Items<RawInstr>, CodeFault>
-    requires { length bytes.now < 2 ^ 16 }
-    ensures { GivesWhole is_free result (raws_of class.now.pool bytes.now) }
-{
-    let mut cur = Cur::new(bytes);
-    read_instrs(alloc, class, &mut cur)
-}
-
-#[tactic(auto, unfolding(crate::specs::Decoding::instrs_of))]
-fn instrs(alloc: Global, class: &Class, bytes: &[u8]) -> Result<Items<Instr>, CodeFault>
-    requires { length bytes.now < 2 ^ 16 }
-    ensures { GivesWhole is_free result (instrs_of class.now.pool bytes.now) }
-{
-    let raws = raws(alloc, class, bytes)?;
-    settle_all(alloc, raws)
-}
 
 #[tactic(auto, unfolding(crate::specs::Decoding::maps_of))]
 fn maps(
     alloc: Global,
     class: &Class,
     method: &Method,
-    instrs: &[Instr],
+    starts: &Starts,
     maps: &Option<Items<u8>>,
 ) -> Result<Items<FrameMap>, CodeFault>
     requires { IfSome maps.now (λ contents. length contents < 2 ^ 32) }
-    ensures { GivesWhole is_free result (maps_of class.now method.now instrs.now maps.now) }
+    ensures { GivesWhole is_free result (maps_of class.now method.now starts.now maps.now) }
 {
     match maps {
         None => Ok(Items::new(alloc)),
         Some(contents) => {
             let locals = entry_locals(alloc, class, method)?;
-            read_frames(alloc, class, instrs, locals, contents.as_slice())
+            read_frames(alloc, class, starts, locals, contents.as_slice())
         }
     }
 }
@@ -78,10 +57,11 @@ fn body(alloc: Global, class: &Class, method: &Method, code: &Code) -> Result<Bo
     requires { IsSized code.now }
     ensures { GivesWhole is_free result (body_of class.now method.now code.now) }
 {
-    let instrs = instrs(alloc, class, code.bytes.as_slice())?;
+    let instrs = decode_instrs(alloc, class, code.bytes.as_slice())?;
+    let starts = Starts::of(instrs.as_slice());
     let handlers = code.handlers.as_slice();
-    check_handlers(alloc, class, code.bytes.len(), instrs.as_slice(), handlers)?;
-    let maps = maps(alloc, class, method, instrs.as_slice(), &code.maps)?;
+    check_handlers(alloc, class, code.bytes.len(), &starts, handlers)?;
+    let maps = maps(alloc, class, method, &starts, &code.maps)?;
     Ok(Body {
         instrs,
         handlers: copied(alloc, handlers)?,

@@ -2,8 +2,8 @@
 
 ghost use Rattle.std.specs.Prelude.{◌≡◌, ◌++◌, take, IfOk, IsOkUnless};
 
-use crate::fault::CodeFault;
 use nr_base::{Desc, DescBase, Items};
+use nr_instrs::CodeFault;
 use nr_prog::MapType;
 use std::alloc::Global;
 

@@ -8,9 +8,8 @@ ghost use Rattle.nr_prog.specs.BodyMaps.{base_is, this_type as this_type_of, typ
 ghost use Rattle.nr_code.specs.MapReading.{entry_of, params_of, receiver_of, types_of};
 
 use super::copies::copied_desc;
-use crate::fault::CodeFault;
-use crate::pool::class_type;
 use nr_base::{Desc, DescBase, DescFault, Items, MethodDesc};
+use nr_instrs::{CodeFault, class_type};
 use nr_prog::{Class, MapType, Method};
 use std::alloc::Global;
 

@@ -4,15 +4,14 @@ ghost use Rattle.std.specs.Prelude.{◌≡◌, ◌≤◌, ◌<◌, ◌^◌, IfOk
 ghost use Rattle.nr_base.specs.Clauses.{Gives, GivesBy, GivesWhole};
 ghost use Rattle.nr_base.specs.Reader.{times};
 ghost use Rattle.nr_prog.specs.BodyMaps.{at_entry, dropped as dropped_by, has_one_operand as holds_one, is_frame_tag as is_legal};
-ghost use Rattle.nr_code.specs.Faults.{is_free};
+ghost use Rattle.nr_instrs.specs.Faults.{is_free};
 ghost use Rattle.nr_code.specs.MapReading.{delta_at, frame_at, frame_types_at, frames_of, full_at, maps_in, placed_at};
 
 use super::copies::{copied, joined};
 use super::types::{read_counted, read_type, read_types};
-use crate::fault::CodeFault;
-use crate::start::is_start;
 use nr_base::{Cur, Items};
-use nr_prog::{Class, FrameMap, Instr, MapType};
+use nr_instrs::{CodeFault, Starts};
+use nr_prog::{Class, FrameMap, MapType};
 use std::alloc::Global;
 
 fn is_frame_tag(tag: u8) -> bool
@@ -53,13 +52,13 @@ fn read_delta(tag: u8, cur: &mut Cur) -> Result<u16, CodeFault>
 fn read_full(
     alloc: Global,
     class: &Class,
-    instrs: &[Instr],
+    starts: &Starts,
     cur: &mut Cur,
 ) -> Result<(Items<MapType>, Items<MapType>), CodeFault>
-    ensures { Gives is_free result cur.new (full_at class.now.pool instrs.now cur.old) }
+    ensures { Gives is_free result cur.new (full_at class.now.pool starts.now cur.old) }
 {
-    let locals = read_counted(alloc, class, instrs, cur)?;
-    let stack = read_counted(alloc, class, instrs, cur)?;
+    let locals = read_counted(alloc, class, starts, cur)?;
+    let stack = read_counted(alloc, class, starts, cur)?;
     Ok((locals, stack))
 }
 
@@ -68,23 +67,23 @@ fn read_full(
 fn read_frame_types(
     alloc: Global,
     class: &Class,
-    instrs: &[Instr],
+    starts: &Starts,
     tag: u8,
     before: &[MapType],
     cur: &mut Cur,
 ) -> Result<(Items<MapType>, Items<MapType>), CodeFault>
-    ensures { Gives is_free result cur.new (frame_types_at class.now.pool instrs.now tag before.now cur.old) }
+    ensures { Gives is_free result cur.new (frame_types_at class.now.pool starts.now tag before.now cur.old) }
 {
     let mut stack = Items::new(alloc);
     if has_one_operand(tag) {
-        stack.push(read_type(alloc, class, instrs, cur)?)?;
+        stack.push(read_type(alloc, class, starts, cur)?)?;
         return Ok((copied(alloc, before)?, stack));
     }
     if tag == 255 {
-        return read_full(alloc, class, instrs, cur);
+        return read_full(alloc, class, starts, cur);
     }
     if tag >= 252 {
-        let more = read_types(alloc, class, instrs, u16::from(tag - 251), cur)?;
+        let more = read_types(alloc, class, starts, u16::from(tag - 251), cur)?;
         return Ok((joined(alloc, before, more)?, stack));
     }
     let kept = before.len().saturating_sub(dropped(tag));
@@ -97,7 +96,7 @@ fn read_frame_types(
 fn read_placed(
     alloc: Global,
     class: &Class,
-    instrs: &[Instr],
+    starts: &Starts,
     at: u32,
     tag: u8,
     offset: u32,
@@ -105,13 +104,13 @@ fn read_placed(
     locals: &mut Items<MapType>,
     maps: &mut Items<FrameMap>,
 ) -> Result<u32, CodeFault>
-    ensures gives { GivesBy is_free (λ next. record { next = next; locals = locals.new; maps = maps.new }) result cur.new (placed_at class.now.pool instrs.now locals.old maps.old at tag offset cur.old) }
+    ensures gives { GivesBy is_free (λ next. record { next = next; locals = locals.new; maps = maps.new }) result cur.new (placed_at class.now.pool starts.now locals.old maps.old at tag offset cur.old) }
     ensures next { IfOk result (λ next. next ≤ 2 ^ 16) }
 {
-    if offset > 0xFFFF || !is_start(instrs, offset) {
+    if offset > 0xFFFF || !starts.is_start(offset as u16) {
         return Err(CodeFault::MapOrder(at));
     }
-    let (own, stack) = read_frame_types(alloc, class, instrs, tag, locals.as_slice(), cur)?;
+    let (own, stack) = read_frame_types(alloc, class, starts, tag, locals.as_slice(), cur)?;
     maps.push(FrameMap {
         at: offset as u16,
         locals: copied(alloc, own.as_slice())?,
@@ -126,14 +125,14 @@ fn read_placed(
 fn read_frame(
     alloc: Global,
     class: &Class,
-    instrs: &[Instr],
+    starts: &Starts,
     next: u32,
     cur: &mut Cur,
     locals: &mut Items<MapType>,
     maps: &mut Items<FrameMap>,
 ) -> Result<u32, CodeFault>
     requires { next ≤ 2 ^ 16 }
-    ensures gives { GivesBy is_free (λ n. record { next = n; locals = locals.new; maps = maps.new }) result cur.new (frame_at class.now.pool instrs.now (record { next = next; locals = locals.old; maps = maps.old }) cur.old) }
+    ensures gives { GivesBy is_free (λ n. record { next = n; locals = locals.new; maps = maps.new }) result cur.new (frame_at class.now.pool starts.now (record { next = next; locals = locals.old; maps = maps.old }) cur.old) }
     ensures next { IfOk result (λ n. n ≤ 2 ^ 16) }
 {
     let at = cur.at();
@@ -142,24 +141,24 @@ fn read_frame(
         return Err(CodeFault::MapTag(at));
     }
     let offset = next + u32::from(read_delta(tag, cur)?);
-    read_placed(alloc, class, instrs, at, tag, offset, cur, locals, maps)
+    read_placed(alloc, class, starts, at, tag, offset, cur, locals, maps)
 }
 
-#[tactic(auto, using(nr_base::proofs::Loops::goes_on, nr_base::proofs::Loops::is_done, crate::proofs::Exits::fails_in))]
+#[tactic(auto, using(nr_base::proofs::Loops::goes_on, nr_base::proofs::Loops::is_done, nr_instrs::proofs::Exits::fails_in))]
 fn read_items(
     alloc: Global,
     class: &Class,
-    instrs: &[Instr],
+    starts: &Starts,
     count: u16,
     cur: &mut Cur,
     locals: &mut Items<MapType>,
 ) -> Result<(u32, Items<FrameMap>), CodeFault>
-    ensures { GivesBy is_free (λ r. record { next = r.0; locals = locals.new; maps = r.1 }) result cur.new (times (frame_at class.now.pool instrs.now) count (at_entry locals.old) cur.old) }
+    ensures { GivesBy is_free (λ r. record { next = r.0; locals = locals.new; maps = r.1 }) result cur.new (times (frame_at class.now.pool starts.now) count (at_entry locals.old) cur.old) }
 {
     let mut next = 0;
     let mut maps = Items::new(alloc);
     for _ in 0..count {
-        next = read_frame(alloc, class, instrs, next, cur, locals, &mut maps)?;
+        next = read_frame(alloc, class, starts, next, cur, locals, &mut maps)?;
     }
     Ok((next, maps))
 }
@@ -169,17 +168,17 @@ fn read_items(
 pub fn read_frames(
     alloc: Global,
     class: &Class,
-    instrs: &[Instr],
+    starts: &Starts,
     locals: Items<MapType>,
     contents: &[u8],
 ) -> Result<Items<FrameMap>, CodeFault>
     requires { length contents.now < 2 ^ 32 }
-    ensures { GivesWhole is_free result (maps_in (frames_of class.now.pool instrs.now locals contents.now)) }
+    ensures { GivesWhole is_free result (maps_in (frames_of class.now.pool starts.now locals contents.now)) }
 {
     let mut cur = Cur::new(contents);
     let mut locals = locals;
     let count = cur.u16()?;
-    let (_, maps) = read_items(alloc, class, instrs, count, &mut cur, &mut locals)?;
+    let (_, maps) = read_items(alloc, class, starts, count, &mut cur, &mut locals)?;
     if !cur.is_empty() {
         return Err(CodeFault::MapTag(cur.at()));
     }

@@ -3,14 +3,12 @@
 ghost use Rattle.std.specs.Prelude.{◌≡◌, [], IfOk, IsOkUnless, option_copied};
 ghost use Rattle.nr_base.specs.Clauses.{Gives, GivesBy};
 ghost use Rattle.nr_base.specs.Reader.{onto, times};
-ghost use Rattle.nr_code.specs.Faults.{is_free};
+ghost use Rattle.nr_instrs.specs.Faults.{is_free};
 ghost use Rattle.nr_code.specs.MapReading.{class_given, class_type_at, counted_types_at, map_type_at, map_types_at, type_by_at, uninit_at};
 
-use crate::fault::CodeFault;
-use crate::pool::class_type;
-use crate::start::is_new;
 use nr_base::{Cur, Desc, Items};
-use nr_prog::{Class, Instr, MapType};
+use nr_instrs::{CodeFault, Starts, class_type};
+use nr_prog::{Class, MapType};
 use std::alloc::Global;
 
 #[tactic(auto, unfolding(crate::specs::MapReading::class_given, nr_base::specs::Reader::bind, nr_base::specs::Reader::pure, nr_base::specs::Reader::refuse, nr_base::specs::Reader::choose, nr_base::specs::Reader::from, nr_base::specs::Reader::with_fault))]
@@ -32,11 +30,11 @@ fn read_object(alloc: Global, class: &Class, at: u32, cur: &mut Cur) -> Result<M
 }
 
 #[tactic(auto, unfolding(crate::specs::MapReading::uninit_at, crate::specs::MapReading::u2_at, nr_base::specs::Reader::bind, nr_base::specs::Reader::pure, nr_base::specs::Reader::refuse, nr_base::specs::Reader::choose, nr_base::specs::Reader::from, nr_base::specs::Reader::with_fault))]
-fn read_uninit(instrs: &[Instr], at: u32, cur: &mut Cur) -> Result<MapType, CodeFault>
-    ensures { Gives is_free result cur.new (uninit_at instrs.now at cur.old) }
+fn read_uninit(starts: &Starts, at: u32, cur: &mut Cur) -> Result<MapType, CodeFault>
+    ensures { Gives is_free result cur.new (uninit_at starts.now at cur.old) }
 {
     let offset = cur.u16()?;
-    if is_new(instrs, offset) {
+    if starts.is_new(offset) {
         Ok(MapType::Uninit(offset))
     } else {
         Err(CodeFault::MapTag(at))
@@ -47,12 +45,12 @@ fn read_uninit(instrs: &[Instr], at: u32, cur: &mut Cur) -> Result<MapType, Code
 fn read_by_tag(
     alloc: Global,
     class: &Class,
-    instrs: &[Instr],
+    starts: &Starts,
     at: u32,
     tag: u8,
     cur: &mut Cur,
 ) -> Result<MapType, CodeFault>
-    ensures { Gives is_free result cur.new (type_by_at class.now.pool instrs.now at tag cur.old) }
+    ensures { Gives is_free result cur.new (type_by_at class.now.pool starts.now at tag cur.old) }
 {
     match tag {
         0 => Ok(MapType::Top),
@@ -61,7 +59,7 @@ fn read_by_tag(
         5 => Ok(MapType::Null),
         6 => Ok(MapType::UninitThis),
         7 => read_object(alloc, class, at, cur),
-        8 => read_uninit(instrs, at, cur),
+        8 => read_uninit(starts, at, cur),
         _ => Err(CodeFault::MapTag(at)),
     }
 }
@@ -71,44 +69,44 @@ fn read_by_tag(
 pub fn read_type(
     alloc: Global,
     class: &Class,
-    instrs: &[Instr],
+    starts: &Starts,
     cur: &mut Cur,
 ) -> Result<MapType, CodeFault>
-    ensures { Gives is_free result cur.new (map_type_at class.now.pool instrs.now cur.old) }
+    ensures { Gives is_free result cur.new (map_type_at class.now.pool starts.now cur.old) }
 {
     let at = cur.at();
     let tag = cur.u8()?;
-    read_by_tag(alloc, class, instrs, at, tag, cur)
+    read_by_tag(alloc, class, starts, at, tag, cur)
 }
 
 #[tactic(auto, unfolding(nr_base::specs::Reader::onto, nr_base::specs::Reader::bind, nr_base::specs::Reader::pure, nr_base::specs::Reader::refuse, nr_base::specs::Reader::choose, nr_base::specs::Reader::from, nr_base::specs::Reader::with_fault))]
 fn type_onto(
     alloc: Global,
     class: &Class,
-    instrs: &[Instr],
+    starts: &Starts,
     cur: &mut Cur,
     types: &mut Items<MapType>,
 ) -> Result<(), CodeFault>
-    ensures { GivesBy is_free (λ _. types.new) result cur.new (onto (map_type_at class.now.pool instrs.now) types.old cur.old) }
+    ensures { GivesBy is_free (λ _. types.new) result cur.new (onto (map_type_at class.now.pool starts.now) types.old cur.old) }
 {
-    types.push(read_type(alloc, class, instrs, cur)?)?;
+    types.push(read_type(alloc, class, starts, cur)?)?;
     Ok(())
 }
 
 /// So many types.
-#[tactic(auto, using(nr_base::proofs::Loops::goes_on, nr_base::proofs::Loops::is_done, crate::proofs::Exits::fails_in), unfolding(crate::specs::MapReading::map_types_at))]
+#[tactic(auto, using(nr_base::proofs::Loops::goes_on, nr_base::proofs::Loops::is_done, nr_instrs::proofs::Exits::fails_in), unfolding(crate::specs::MapReading::map_types_at))]
 pub fn read_types(
     alloc: Global,
     class: &Class,
-    instrs: &[Instr],
+    starts: &Starts,
     count: u16,
     cur: &mut Cur,
 ) -> Result<Items<MapType>, CodeFault>
-    ensures { Gives is_free result cur.new (map_types_at class.now.pool instrs.now count cur.old) }
+    ensures { Gives is_free result cur.new (map_types_at class.now.pool starts.now count cur.old) }
 {
     let mut types = Items::new(alloc);
     for _ in 0..count {
-        type_onto(alloc, class, instrs, cur, &mut types)?;
+        type_onto(alloc, class, starts, cur, &mut types)?;
     }
     Ok(types)
 }
@@ -118,11 +116,11 @@ pub fn read_types(
 pub fn read_counted(
     alloc: Global,
     class: &Class,
-    instrs: &[Instr],
+    starts: &Starts,
     cur: &mut Cur,
 ) -> Result<Items<MapType>, CodeFault>
-    ensures { Gives is_free result cur.new (counted_types_at class.now.pool instrs.now cur.old) }
+    ensures { Gives is_free result cur.new (counted_types_at class.now.pool starts.now cur.old) }
 {
     let count = cur.u16()?;
-    read_types(alloc, class, instrs, count, cur)
+    read_types(alloc, class, starts, count, cur)
 }

@@ -5,9 +5,9 @@ use Rattle.nr_prog.specs.declared.member.Method.{Method}
 use Rattle.nr_prog.specs.declared.parts.ClassParts.{ClassParts}
 use Rattle.std.proofs.lemmas.Result.{err_from_is_err_and}
 use Rattle.nr_base.specs.Clauses.{Fails}
-use Rattle.nr_code.specs.Faults.{is_load_free}
+use Rattle.nr_code.specs.LoadFaults.{is_load_free}
 use Rattle.nr_code.specs.Decoding.{bodies_of, body_step}
-use Rattle.nr_code.proofs.Walks.{goes_on, fails_by}
+use Rattle.nr_instrs.proofs.Walks.{goes_on, fails_by}
 use Rattle.nr_code.proofs.Sizes.{short_at, formed_at, one_more}
 use Rattle.nr_code.proofs.Bodies.{next_body}
 use Rattle.nr_code.proofs.load.read_all.Goals as goal

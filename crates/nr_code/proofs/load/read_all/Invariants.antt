@@ -1,6 +1,6 @@
 use Rattle.std.proofs.Common.{◌≡◌, [], drop, take, length}
 use Rattle.nr_prog.specs.BodyText.{EachBody}
-use Rattle.nr_code.specs.Checks.{walk}
+use Rattle.nr_instrs.specs.Checks.{walk}
 use Rattle.nr_code.specs.Decoding.{body_step}
 use Rattle.nr_code.proofs.load.read_all.Given as goal
 

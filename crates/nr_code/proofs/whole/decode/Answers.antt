@@ -1,7 +1,7 @@
 use Rattle.std.proofs.Common.{ap, ◌∙◌}
 use Rattle.nr_base.specs.Clauses.{GivesWhole}
 use Rattle.nr_prog.specs.declared.parts.ClassParts.{ClassParts}
-use Rattle.nr_code.specs.Faults.{is_free}
+use Rattle.nr_instrs.specs.Faults.{is_free}
 use Rattle.nr_code.specs.Decoding.{body_of}
 use Rattle.nr_code.proofs.Sizes.{is_at, sized_at, told}
 use Rattle.nr_code.proofs.Bodies.{code_as, body_at}

@@ -6,6 +6,6 @@ use Rattle.nr_code.proofs.maps.frame.read_items.Given as goal
 
 abbrev pub invariant-loop : goal.invariant-loop
 invariant-loop l = record {
-  so_far : times (frame_at l.class.pool l.instrs) (l.count - l.counter) (record { next = l.next; locals = l.locals; maps = l.maps }) l.cur ≡ times (frame_at l.class.pool l.instrs) l.count (at_entry l.fn.locals) l.fn.cur;
+  so_far : times (frame_at l.class.pool l.starts) (l.count - l.counter) (record { next = l.next; locals = l.locals; maps = l.maps }) l.cur ≡ times (frame_at l.class.pool l.starts) l.count (at_entry l.fn.locals) l.fn.cur;
   next : l.next ≤ 2 ^ 16;
 }

@@ -1,0 +1,15 @@
+pub mod Exits
+pub mod Moves
+pub mod Advances
+pub mod Loops
+pub mod Walks
+pub mod Names
+pub mod Facts
+pub mod OperandLaws
+pub mod Raws
+pub mod Texts
+pub mod Settling
+pub mod ToEnd
+pub mod Orders
+pub mod Instrs
+pub mod Codes
