@@ -22,19 +22,21 @@ use Rattle.nr_prog.specs.BodyMaps.{Mapped, at_entry}
 use Rattle.nr_classread.specs.ClassReading.{class_of}
 use Rattle.nr_classread.specs.declared.fault.ClassFault.{ClassFault}
 use Rattle.nr_classread.specs.declared.fault.ClassFault.TheVariants as files
-use Rattle.nr_code.specs.Faults.{of_class, of_code}
-use Rattle.nr_code.specs.Numbers.{unsigned_at, signed_at, branch_at, skipped_at}
-use Rattle.nr_code.specs.NameTests.{class_desc_at}
-use Rattle.nr_code.specs.OperandReading.{checked_at, index_at, interface_at, dims_at, local_at, num_at, increment_at, primitive_at, widened_at, wide_at, plain_at, table_at, pair_at, pairs_at, lookup_at, jump_at, operands_at}
-use Rattle.nr_code.specs.InstrReading.{listed_at, row_at, instr_at}
-use Rattle.nr_code.specs.Checks.{then_on, walk, also, is_among, settled_target, settled_targets, settled_args, settled, starts_of, settled_all, is_handler, handler_step, handlers_checked}
+use Rattle.nr_code.specs.LoadFaults.{of_class, of_code}
+use Rattle.nr_instrs.specs.Numbers.{unsigned_at, signed_at, branch_at, skipped_at}
+use Rattle.nr_instrs.specs.NameTests.{class_desc_at}
+use Rattle.nr_instrs.specs.OperandReading.{checked_at, index_at, interface_at, dims_at, local_at, num_at, increment_at, primitive_at, widened_at, wide_at, plain_at, table_at, pair_at, pairs_at, lookup_at, jump_at, operands_at}
+use Rattle.nr_instrs.specs.InstrReading.{listed_at, row_at, instr_at}
+use Rattle.nr_instrs.specs.Checks.{then_on, walk, also, is_among, settled_target, settled_targets, settled_args, settled, starts_of, settled_all}
+use Rattle.nr_code.specs.HandlerChecks.{is_handler, handler_step, handlers_checked}
 use Rattle.nr_code.specs.MapReading.{u1_at, u2_at, class_given, class_type_at, uninit_at, type_by_at, map_type_at, map_types_at, counted_types_at, delta_at, full_at, frame_types_at, placed_at, frame_at, frames_at, maps_in, entry_of}
-use Rattle.nr_code.specs.Decoding.{read_of, raws_of, instrs_of, maps_of, body_of, body_in, body_step, bodies_of, loaded_of}
-use Rattle.nr_code.specs.declared.raw.Operands.{Operands}
-use Rattle.nr_code.specs.declared.raw.Operands.TheVariants as raw
-use Rattle.nr_code.specs.declared.raw.RawInstr.{RawInstr}
-use Rattle.nr_code.specs.declared.fault.CodeFault.{CodeFault}
-use Rattle.nr_code.specs.declared.fault.CodeFault.TheVariants as faults
+use Rattle.nr_instrs.specs.Decoding.{read_of, raws_of, instrs_of}
+use Rattle.nr_code.specs.Decoding.{maps_of, body_of, body_in, body_step, bodies_of, loaded_of}
+use Rattle.nr_instrs.specs.declared.raw.Operands.{Operands}
+use Rattle.nr_instrs.specs.declared.raw.Operands.TheVariants as raw
+use Rattle.nr_instrs.specs.declared.raw.RawInstr.{RawInstr}
+use Rattle.nr_instrs.specs.declared.fault.CodeFault.{CodeFault}
+use Rattle.nr_instrs.specs.declared.fault.CodeFault.TheVariants as faults
 use Rattle.nr_code.specs.declared.fault.LoadFault.TheVariants as loads
 use Rattle.nr_cli.proofs.Readers.{Avoids, Never, ok_avoids, err_avoids, mapped_avoids, pure_never, refuse_never, bind_never, choose_never, from_never, with_fault_never, times_never, onto_never, to_end_never, whole_avoids}
 use Rattle.nr_cli.proofs.FileReading.{class_avoids}
