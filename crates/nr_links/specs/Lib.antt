@@ -4,3 +4,4 @@ pub mod Found
 pub mod Entries
 pub mod Rules
 pub mod Links
+pub mod Example

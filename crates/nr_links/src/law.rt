@@ -4,9 +4,17 @@ ghost use Rattle.std.specs.Prelude.{List};
 ghost use Rattle.nr_prog.specs.declared.body.loaded.Loaded.{Loaded};
 ghost use Rattle.nr_linked.specs.declared.program.tables.ProgramTables.{ProgramTables};
 ghost use Rattle.nr_linked.specs.Linked.{Linked};
+ghost use Rattle.nr_links.specs.Example.{loaded, tables};
 ghost use Rattle.nr_links.specs.Links.{Links};
 
 /// Promises that what some classes link to is a program. It does nothing.
 pub fn linked_programs_have_the_facts()
     ensures { (classes : List Loaded) (P : ProgramTables) → Links classes P → Linked P }
+{}
+
+/// Promises that some classes link: a class with a field, calls, an exception handler and a frame
+/// map, and an interface that it implements. It does nothing.
+#[tactic(auto, using(crate::proofs::ExampleLinks::links))]
+pub fn classes_can_link()
+    ensures { Links loaded tables }
 {}
