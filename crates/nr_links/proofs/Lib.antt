@@ -1,4 +1,16 @@
 pub mod Listed
+pub mod Places
 pub mod Reaching
+pub mod Upward
+pub mod BuiltInEntries
+pub mod SlotFacts
+pub mod Descriptors
+pub mod MethodEntries
+pub mod Described
+pub mod Selecting
+pub mod Calling
+pub mod Instructions
+pub mod SiteFacts
+pub mod Facts
 pub mod ExampleTables
 pub mod ExampleLinks
