@@ -153,7 +153,7 @@ has_body_for c m (Some code) b some body none = let e = sym body.1 ∙ none in c
 module _ (classes : List Loaded) (P : ProgramTables) (links : Links classes P) (all : All IsDecoded classes) where
   pub described : (n : ℕ) (i : MethodInfo) → method_at P n ≡ Some i → Described P i
   described n i is = elim (method_cases classes P links all n i is) [
-    | inl m ↦ record { desc = m.said.desc; spelled = m.said.spelled; params = m.said.params; result = m.said.result }
+    | inl m ↦ record { desc = m.said.says; spelled = m.said.spelled; params = m.said.params; result = m.said.result }
     | inr m ↦ subst (Described P) (sym m.is) (recursion_at (DescribedAt P (first_built_in P + number m.holder)) (built_in_class m.holder).methods m.place m.method (built_ins_described P _ m.holder) m.declares)
   ]
 
@@ -180,7 +180,7 @@ module _ (classes : List Loaded) (P : ProgramTables) (links : Links classes P) (
       let named = m.name ∙ ap (λ t. Some t) (same_bytes i.name (codes "<init>") init) in
       let v = some_of (λ text. (d : MethodDesc) × method_desc d text × (d.result ≡ None)) (text_at m.l.«class».pool m.m.desc) (m.formed.initialiser named).void in
       let same : v.0 ≡ i.desc = same_Some v.0 i.desc (sym v.1 ∙ m.desc) in
-      let d = one_method_desc v.2.0 m.said.desc i.desc (subst (method_desc v.2.0) same v.2.1) m.said.spelled in
+      let d = one_method_desc v.2.0 m.said.says i.desc (subst (method_desc v.2.0) same v.2.1) m.said.spelled in
       none_of i.result (m.said.result ∙ sym (ap (λ (d : MethodDesc). d.result) d) ∙ v.2.2)
 
   -- an initialiser gives nothing

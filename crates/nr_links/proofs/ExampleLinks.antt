@@ -3,11 +3,12 @@ use Rattle.std.proofs.Common.{◌≡◌, ℕ, zero, suc, ◌+◌, ◌<◌, true,
 use Rattle.std.specs.Prelude.{Option, Some, None, All, IsTrue, slice_get, slice_index, slice_index_or, codes, nat_lt}
 use Rattle.std.specs.List.{AllByRecursion, flat_map, list_all}
 use Rattle.std.proofs.lemmas.Bool.{and_parts, both_ways, ltb-true, not-true}
+use Rattle.std.proofs.lemmas.List.Elements.{All-nil}
 use Rattle.std.proofs.lemmas.Option.{same_Some}
 use Rattle.nr_base.specs.LegalNames.{class_from}
 use Rattle.nr_base.specs.ModifiedUtf8.{IsUnit, unit_bytes}
 use Rattle.nr_base.proofs.ClassNames.{class_found}
-use Rattle.nr_base.specs.Descs.{method_desc}
+use Rattle.nr_base.specs.Descs.{desc, method_desc}
 use Rattle.nr_base.specs.declared.desc.types.DescBase.TheVariants as desc_bases
 use Rattle.nr_base.specs.declared.desc.types.MethodDesc.{MethodDesc}
 use Rattle.nr_prog.specs.declared.body.loaded.Loaded.{Loaded}
@@ -31,9 +32,10 @@ use Rattle.nr_linked.specs.declared.program.types.VType.TheVariants.{Class}
 use Rattle.nr_linked.specs.BuiltIns.{built_in_class}
 use Rattle.nr_linked.specs.BuiltInTables.{built_in_info, built_in_infos, built_in_method, built_in_methods}
 use Rattle.nr_linked.specs.Kinds.{class_kind}
+use Rattle.nr_linked.specs.KindTexts.{kind_desc}
 use Rattle.nr_linked.specs.Programs.{class_at, method_at}
 use Rattle.nr_linked.specs.Subtypes.{Above, IsDirectlyAbove, is_above, itself}
-use Rattle.nr_links.specs.Example.{face_method, a_info, a_init, a_loaded, a_m, a_main, a_methods, a_parts, a_pool, face_info, face_loaded, face_m, face_parts, handler, init_body, int_kind, loaded, m_body, main_body, main_map, tables}
+use Rattle.nr_links.specs.Example.{face_method, a_info, a_init, a_loaded, a_m, a_main, a_methods, a_parts, a_pool, face_info, face_loaded, face_m, face_parts, handler, init_body, int_kind, loaded, m_body, main_body, main_map, slot, tables}
 use Rattle.nr_links.specs.Entries.{IsCaught, IsClassAs, IsFrameOf, IsMethodAs}
 use Rattle.nr_links.specs.Found.{CanCall, IsCallFound, IsMadeFound, IsSlotFound}
 use Rattle.nr_links.specs.Links.{Links}
@@ -169,7 +171,7 @@ makes_a = record { made = 0; names = names_a; makeable = refl; found = refl }
 
 init_as : IsMethodAs tables 0 a_pool (slice_index_or a_methods 0 face_method) (Some init_body) a_init
 init_as = record {
-  desc = record { params = []; result = None };
+  says = record { params = []; result = None };
   spelled = is_void_desc;
   params = refl;
   result = refl;
@@ -184,7 +186,7 @@ init_as = record {
 m_as : IsMethodAs tables 0 a_pool (slice_index_or a_methods 1 face_method) (Some m_body) a_m
 unfolding int_desc
 m_as = record {
-  desc = int_desc;
+  says = int_desc;
   spelled = is_int_desc;
   params = refl;
   result = refl;
@@ -203,7 +205,7 @@ main_frame = record { at = refl; locals = []; are_locals = refl; in_places = ref
 main_as : IsMethodAs tables 0 a_pool (slice_index_or a_methods 2 face_method) (Some main_body) a_main
 unfolding int_desc
 main_as = record {
-  desc = int_desc;
+  says = int_desc;
   spelled = is_int_desc;
   params = refl;
   result = refl;
@@ -218,7 +220,7 @@ main_as = record {
 face_as : IsMethodAs tables 1 face_parts.pool face_method None face_m
 unfolding int_desc
 face_as = record {
-  desc = int_desc;
+  says = int_desc;
   spelled = is_int_desc;
   params = refl;
   result = refl;
@@ -231,6 +233,11 @@ face_as = record {
 }
 
 -- ---- classes
+
+all_of_one : {X : Type 0} (Q : X → Type 0) (x : X) → Q x → All Q (x ∷ [])
+all_of_one Q x q zero d l = q
+all_of_one Q x q (suc k) d l = absurd (omega arith)
+
 
 -- what holds of an entry holds of the one that stands there
 of_entry : {X : Type 0} (P : X → Type 0) (x y : X) → Some x ≡ Some y → P x → P y
@@ -258,6 +265,7 @@ a_as : IsClassAs tables loaded 0 a_loaded a_info
 unfolding MethodAt loaded
 a_as = record {
   read = refl;
+  slots = all_of_one (λ s. desc (kind_desc tables s.kind) s.desc) slot ((lit≤ tt, tt), refl);
   rising = refl;
   first_method = refl;
   methods = λ n m d i at body entry. at_place (MethodAt 0 a_parts a_loaded.bodies 0) a_methods n m a_methods_as at d i body entry;
@@ -267,6 +275,7 @@ face_as_class : IsClassAs tables loaded 1 face_loaded face_info
 unfolding MethodAt loaded
 face_as_class = record {
   read = refl;
+  slots = All-nil (λ s. desc (kind_desc tables s.kind) s.desc);
   rising = refl;
   first_method = refl;
   methods = λ n m d i at body entry. at_place (MethodAt 1 face_parts face_loaded.bodies 3) face_parts.methods n m face_methods_as at d i body entry;
@@ -292,13 +301,6 @@ no_cycle c check d step above =
     let one = and_parts (nat_lt d 23) (not (is_above tables d c)) (listed_all (λ d. nat_lt d 23 && not (is_above tables d c)) d (steps_up tables c) (direct_step (class_at tables c) d step) check) in
     both_ways (is_above tables d c) (not-true (is_above tables d c) one.1) ((supers d (ltb-true d 23 one.0) c).1 above)
 
-one_field : (P : Field → Type 0) (f : Field) → P f → All P (f ∷ [])
-one_field P f p zero d l = p
-one_field P f p (suc k) d l = absurd (omega arith)
-
-no_field : (P : Field → Type 0) → All P []
-no_field P k d l = absurd (omega arith)
-
 a_rules : KeepsRules tables 0 a_info a_parts
 unfolding tables text_at spells built_in_infos built_in_info built_in_class
 a_rules = record {
@@ -308,7 +310,7 @@ a_rules = record {
   initialiser = refl;
   interface_members = λ p. absurd cc;
   final_override = λ n m i over is is_over own one other above apart. not_final m over is_over;
-  fields = one_field (λ f. Spells (SaysKind tables) a_pool f.desc) (record { flags = 0; name = 7; desc = 8; constant = 0 }) (int_kind, refl, refl);
+  fields = all_of_one (λ f. Spells (SaysKind tables) a_pool f.desc) (record { flags = 0; name = 7; desc = 8; constant = 0 }) (int_kind, refl, ((lit≤ tt, tt), refl));
 }
 
 face_rules : KeepsRules tables 1 face_info face_parts
@@ -320,7 +322,7 @@ face_rules = record {
   initialiser = refl;
   interface_members = λ p. refl;
   final_override = λ n m i over is is_over own one other above apart. not_final m over is_over;
-  fields = no_field _;
+  fields = All-nil (λ f. Spells (SaysKind tables) face_parts.pool f.desc);
 }
 
 -- ---- the whole

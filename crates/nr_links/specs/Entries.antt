@@ -1,6 +1,6 @@
 -- What the tables of a program say of a class that was loaded: what its file says, in the numbers of the program. How the
 -- tables are laid out is the project's own.
-use Rattle.std.specs.Prelude.{◌≡◌, ℕ, ◌+◌, List, [], ◌∷◌, length, map, take, Bool, true, nat_lt, ◌&&◌, Option, Some, None, IsTrue, slice_get}
+use Rattle.std.specs.Prelude.{◌≡◌, ℕ, ◌+◌, List, [], ◌∷◌, length, map, take, Bool, true, nat_lt, ◌&&◌, Option, Some, None, All, IsTrue, slice_get}
 use Rattle.std.specs.List.{AllZip, flat_map, list_any}
 use Rattle.std.specs.Option.{option_map, option_map_or}
 use Rattle.nr_base.specs.declared.desc.types.MethodDesc.{MethodDesc}
@@ -20,7 +20,7 @@ use Rattle.nr_linked.specs.declared.program.tables.ProgramTables.{ProgramTables}
 use Rattle.nr_linked.specs.declared.program.types.VFrame.{VFrame}
 use Rattle.nr_linked.specs.declared.program.types.VType.{VType}
 use Rattle.nr_linked.specs.declared.program.types.VType.TheVariants as types
-use Rattle.nr_base.specs.Descs.{method_desc}
+use Rattle.nr_base.specs.Descs.{desc, method_desc}
 use Rattle.nr_linked.specs.KindTexts.{kind_desc}
 use Rattle.nr_linked.specs.Linked.{frame_maps_of, handlers_of, instrs_of}
 use Rattle.nr_linked.specs.Programs.{method_at}
@@ -71,10 +71,10 @@ local_places code = option_map_or (λ c. c.max_locals) code 0
 -- descriptor and its flags are those of the file, as `Linked` says.
 pub record IsMethodAs (P : ProgramTables) (c : ℕ) (pool : List PoolEntry) (m : Method) (decoded : Option Body) (i : MethodInfo) : Type 0 where
   -- what its descriptor says
-  pub desc : MethodDesc
-  pub spelled : method_desc desc i.desc
-  pub params : map (kind_desc P) i.params ≡ desc.params
-  pub result : option_map (kind_desc P) i.result ≡ desc.result
+  pub says : MethodDesc
+  pub spelled : method_desc says i.desc
+  pub params : map (kind_desc P) i.params ≡ says.params
+  pub result : option_map (kind_desc P) i.result ≡ says.result
   -- its code, and the places that it takes; none where it is abstract
   pub body : i.body ≡ decoded
   pub max_stack : i.max_stack ≡ stack_places m.code
@@ -101,6 +101,8 @@ is_rising (x ∷ y ∷ more) = nat_lt x y && is_rising (y ∷ more)
 pub record IsClassAs (P : ProgramTables) (classes : List Loaded) (c : ℕ) (l : Loaded) (e : ClassInfo) : Type 0 where
   -- the file itself
   pub read : e.read ≡ Some l.«class»
+  -- each of its slots holds what its descriptor says
+  pub slots : All (λ s. desc (kind_desc P s.kind) s.desc) e.slots
   -- what stands above it, in the order of the table, each once
   pub rising : IsTrue (is_rising e.supers)
   -- its methods come after those of the classes before it, in their order

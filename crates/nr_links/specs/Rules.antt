@@ -11,9 +11,10 @@ use Rattle.nr_linked.specs.declared.program.kind.Kind.{Kind}
 use Rattle.nr_linked.specs.declared.program.tables.ClassInfo.{ClassInfo}
 use Rattle.nr_linked.specs.declared.program.tables.MethodInfo.{MethodInfo}
 use Rattle.nr_linked.specs.declared.program.tables.ProgramTables.{ProgramTables}
+use Rattle.nr_base.specs.Descs.{desc}
 use Rattle.nr_prog.specs.Form.{Spells}
 use Rattle.nr_prog.specs.Members.{has_flag, is_abstract, is_static, spells}
-use Rattle.nr_linked.specs.KindTexts.{kind_text}
+use Rattle.nr_linked.specs.KindTexts.{kind_desc}
 use Rattle.nr_linked.specs.Linked.{is_kind_in}
 use Rattle.nr_linked.specs.Programs.{class_at, is_interface, method_at}
 use Rattle.nr_linked.specs.Selection.{is_public, is_selectable}
@@ -35,7 +36,7 @@ is_class_initialiser pool m = spells (bytes_eq (codes "<clinit>")) pool m.name
 
 -- the descriptor says a kind of the program
 abbrev pub SaysKind : ProgramTables → List ℕ → Type 0
-SaysKind P text = (k : Kind) × IsTrue (is_kind_in P k) × (text ≡ kind_text P k)
+SaysKind P text = (k : Kind) × IsTrue (is_kind_in P k) × desc (kind_desc P k) text
 
 -- the fields of an interface are static, and its methods public and abstract (4.5, 4.6)
 abbrev pub has_interface_members : ClassParts → Bool
