@@ -43,7 +43,7 @@ module _ (P : ProgramTables) (linked : Linked P) where
   name_of : (c : ℕ) (e : ClassInfo) → class_at P c ≡ Some e → class_name P c ≡ e.name
   name_of c e is = ap (λ o. option_map_or (λ (e : ClassInfo). e.name) o []) is
 
-  one_class : (c d : ℕ) → IsTrue (is_class_in P c) → IsTrue (is_class_in P d) → class_name P c ≡ class_name P d → c ≡ d
+  pub one_class : (c d : ℕ) → IsTrue (is_class_in P c) → IsTrue (is_class_in P d) → class_name P c ≡ class_name P d → c ≡ d
   one_class c d p q e =
       let r = get_below P.classes c (ltb-true c (length P.classes) p) in
       let s = get_below P.classes d (ltb-true d (length P.classes) q) in

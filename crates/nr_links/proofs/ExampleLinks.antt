@@ -238,7 +238,6 @@ all_of_one : {X : Type 0} (Q : X → Type 0) (x : X) → Q x → All Q (x ∷ []
 all_of_one Q x q zero d l = q
 all_of_one Q x q (suc k) d l = absurd (omega arith)
 
-
 -- what holds of an entry holds of the one that stands there
 of_entry : {X : Type 0} (P : X → Type 0) (x y : X) → Some x ≡ Some y → P x → P y
 of_entry P x y e p = subst P (same_Some x y e) p

@@ -12,5 +12,10 @@ pub mod Calling
 pub mod Instructions
 pub mod SiteFacts
 pub mod Facts
+pub mod OneNames
+pub mod OneClass
+pub mod OneTable
+pub mod OneFound
+pub mod OneMethod
 pub mod ExampleTables
 pub mod ExampleLinks

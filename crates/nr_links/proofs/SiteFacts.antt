@@ -72,7 +72,7 @@ bracket : (b : List ℕ) (n : ℕ) → 1 ≤ n → IsTrue (class_from false (rep
 bracket b zero l p = omega arith
 bracket b (suc n) l p = cc
 
-array_name : (d : Desc) (bytes : List ℕ) → desc d bytes → 1 ≤ d.dims → IsClassText bytes → ⊥
+pub array_name : (d : Desc) (bytes : List ℕ) → desc d bytes → 1 ≤ d.dims → IsClassText bytes → ⊥
 array_name d bytes is l name = bracket (base_text d.base) d.dims l (subst (λ t. IsTrue (class_from false t)) is.1 (class_only bytes name.1))
 
 -- the kind that is named has the dimensions of the array's descriptor

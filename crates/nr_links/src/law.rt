@@ -1,6 +1,6 @@
 //! The laws of linking.
 
-ghost use Rattle.std.specs.Prelude.{List, All};
+ghost use Rattle.std.specs.Prelude.{◌≡◌, List, All};
 ghost use Rattle.nr_prog.specs.declared.body.loaded.Loaded.{Loaded};
 ghost use Rattle.nr_linked.specs.declared.program.tables.ProgramTables.{ProgramTables};
 ghost use Rattle.nr_linked.specs.Linked.{Linked};
@@ -14,6 +14,12 @@ ghost use Rattle.nr_links.specs.Links.{IsDecoded, Links};
 pub fn linked_programs_have_the_facts()
     ensures program { (classes : List Loaded) (P : ProgramTables) → Links classes P → Linked P }
     ensures typing { (classes : List Loaded) (P : ProgramTables) → All IsDecoded classes → Links classes P → TypingFacts P }
+{}
+
+/// Promises that classes link to one program at most, where they have the form of class files and
+/// come with the code that their methods spell. It does nothing.
+pub fn classes_make_one_program()
+    ensures { (classes : List Loaded) (P Q : ProgramTables) → All IsDecoded classes → Links classes P → Links classes Q → P ≡ Q }
 {}
 
 /// Promises that some classes link: a class with a field, calls, an exception handler and a frame

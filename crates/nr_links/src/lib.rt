@@ -4,4 +4,4 @@
 
 mod law;
 
-pub use law::{classes_can_link, linked_programs_have_the_facts};
+pub use law::{classes_can_link, classes_make_one_program, linked_programs_have_the_facts};
