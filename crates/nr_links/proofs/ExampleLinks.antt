@@ -57,16 +57,16 @@ are_units (b ∷ text) p =
 pub legal : (text : List ℕ) → IsTrue (list_all (λ b. nat_lt 0 b && nat_lt b 65536) text) → text ≡ flat_map unit_bytes text → class_from false text ≡ true → IsClassText text
 legal text units spelled name = (record { units = text; each = are_units text units; spelled = spelled }, class_found text name)
 
-legal_a : IsClassText (codes "A")
+pub legal_a : IsClassText (codes "A")
 legal_a = legal (codes "A") refl refl refl
 
-legal_face : IsClassText (codes "Face")
+pub legal_face : IsClassText (codes "Face")
 legal_face = legal (codes "Face") refl refl refl
 
-legal_object : IsClassText (codes "java/lang/Object")
+pub legal_object : IsClassText (codes "java/lang/Object")
 legal_object = legal (codes "java/lang/Object") refl refl refl
 
-legal_throwable : IsClassText (codes "java/lang/Throwable")
+pub legal_throwable : IsClassText (codes "java/lang/Throwable")
 legal_throwable = legal (codes "java/lang/Throwable") refl refl refl
 
 names_a : NamesKind tables a_pool 2 (class_kind 0)
@@ -87,14 +87,14 @@ names_throwable = record { text = inl (refl, legal_throwable); known = refl }
 
 -- ---- methods
 
-int_desc : MethodDesc
+unfoldable pub int_desc : MethodDesc
 int_desc = record { params = []; result = Some (record { dims = 0; base = desc_bases.Int }) }
 
-is_int_desc : method_desc int_desc (codes "()I")
+pub is_int_desc : method_desc int_desc (codes "()I")
 unfolding int_desc
 is_int_desc = ((tt, (lit≤ tt, tt), lit≤ tt), refl)
 
-is_void_desc : method_desc (record { params = []; result = None }) (codes "()V")
+pub is_void_desc : method_desc (record { params = []; result = None }) (codes "()V")
 is_void_desc = ((tt, tt, lit≤ tt), refl)
 
 calls_object : IsCallFound tables 0 183 a_pool 4 13 (resolved.Method 4 2)
@@ -234,7 +234,7 @@ face_as = record {
 
 -- ---- classes
 
-all_of_one : {X : Type 0} (Q : X → Type 0) (x : X) → Q x → All Q (x ∷ [])
+pub all_of_one : {X : Type 0} (Q : X → Type 0) (x : X) → Q x → All Q (x ∷ [])
 all_of_one Q x q zero d l = q
 all_of_one Q x q (suc k) d l = absurd (omega arith)
 

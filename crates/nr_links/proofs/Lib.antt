@@ -19,3 +19,4 @@ pub mod OneFound
 pub mod OneMethod
 pub mod ExampleTables
 pub mod ExampleLinks
+pub mod ExampleDecoded

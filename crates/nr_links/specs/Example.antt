@@ -50,15 +50,13 @@ code_of max_stack max_locals bytes handlers maps = record { max_stack = max_stac
 abbrev pub handler : Handler
 handler = record { start = 0; end = 12; handler = 13; catch_type = 22 }
 
+abbrev pub main_code : Code
+main_code = code_of 2 0 (0xBB ∷ 0 ∷ 2 ∷ 0x59 ∷ 0xB7 ∷ 0 ∷ 15 ∷ 0xB9 ∷ 0 ∷ 19 ∷ 1 ∷ 0 ∷ 0xAC ∷ 0x57 ∷ 0x03 ∷ 0xAC ∷ []) (handler ∷ []) (Some (0 ∷ 1 ∷ 0x4D ∷ 7 ∷ 0 ∷ 22 ∷ []))
+
 abbrev pub a_methods : List Method
 a_methods = record { flags = 0x0001; name = 11; desc = 12; code = Some (code_of 1 1 (0x2A ∷ 0xB7 ∷ 0 ∷ 14 ∷ 0xB1 ∷ []) [] None) }
     ∷ record { flags = 0x0001; name = 16; desc = 17; code = Some (code_of 1 1 (0x2A ∷ 0xB4 ∷ 0 ∷ 10 ∷ 0xAC ∷ []) [] None) }
-    ∷ record {
-      flags = 0x0009;
-      name = 20;
-      desc = 17;
-      code = Some (code_of 2 0 (0xBB ∷ 0 ∷ 2 ∷ 0x59 ∷ 0xB7 ∷ 0 ∷ 15 ∷ 0xB9 ∷ 0 ∷ 19 ∷ 1 ∷ 0 ∷ 0xAC ∷ 0x57 ∷ 0x03 ∷ 0xAC ∷ []) (handler ∷ []) (Some (0 ∷ 1 ∷ 0x4D ∷ 7 ∷ 0 ∷ 22 ∷ [])));
-    } ∷ []
+    ∷ record { flags = 0x0009; name = 20; desc = 17; code = Some main_code } ∷ []
 
 abbrev pub a_parts : ClassParts
 a_parts = record {

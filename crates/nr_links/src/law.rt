@@ -23,8 +23,10 @@ pub fn classes_make_one_program()
 {}
 
 /// Promises that some classes link: a class with a field, calls, an exception handler and a frame
-/// map, and an interface that it implements. It does nothing.
-#[tactic(auto, using(crate::proofs::ExampleLinks::links))]
+/// map, and an interface that it implements. They have the form of class files and come with the
+/// code that their methods spell. It does nothing.
+#[tactic(auto, using(crate::proofs::ExampleLinks::links, crate::proofs::ExampleDecoded::decoded))]
 pub fn classes_can_link()
-    ensures { Links loaded tables }
+    ensures decoded { All IsDecoded loaded }
+    ensures linked { Links loaded tables }
 {}
