@@ -39,15 +39,15 @@ one_method_desc d e text p q = same_ok d e (sym (method_only text d p) ∙ metho
 
 -- ---- kinds
 
-module _ (P : ProgramTables) (linked : Linked P) where
-  name_of : (c : ℕ) (e : ClassInfo) → class_at P c ≡ Some e → class_name P c ≡ e.name
-  name_of c e is = ap (λ o. option_map_or (λ (e : ClassInfo). e.name) o []) is
+pub name_of : (P : ProgramTables) (c : ℕ) (e : ClassInfo) → class_at P c ≡ Some e → class_name P c ≡ e.name
+name_of P c e is = ap (λ o. option_map_or (λ (e : ClassInfo). e.name) o []) is
 
+module _ (P : ProgramTables) (linked : Linked P) where
   pub one_class : (c d : ℕ) → IsTrue (is_class_in P c) → IsTrue (is_class_in P d) → class_name P c ≡ class_name P d → c ≡ d
   one_class c d p q e =
       let r = get_below P.classes c (ltb-true c (length P.classes) p) in
       let s = get_below P.classes d (ltb-true d (length P.classes) q) in
-      let names = sym (name_of c r.0 r.1) ∙ e ∙ name_of d s.0 s.1 in
+      let names = sym (name_of P c r.0 r.1) ∙ e ∙ name_of P d s.0 s.1 in
       same_Some c d (sym (linked.classes c r.0 r.1).name ∙ ap (class_named P) names ∙ (linked.classes d s.0 s.1).name)
 
   one_base : (a b : Base) → IsTrue (option_map_or (is_class_in P) (class_in a) true) → IsTrue (option_map_or (is_class_in P) (class_in b) true) → base_desc P a ≡ base_desc P b → a ≡ b

@@ -20,3 +20,4 @@ pub mod OneMethod
 pub mod ExampleTables
 pub mod ExampleLinks
 pub mod ExampleDecoded
+pub mod ExampleTyped

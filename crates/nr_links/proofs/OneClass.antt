@@ -196,6 +196,14 @@ module _ (classes : List Loaded) (P Q : ProgramTables) (L : Links classes P) (M 
       record { own = ok.own; known = kind_back classes P Q L M s.kind ok.known; says = subst (λ (d : Kind → Rattle.nr_base.specs.declared.desc.types.Desc.Desc). desc (d s.kind) s.desc) descs ok.says })
       (t.mine.fields ∙ sym t.theirs.fields)
 
+  same_inherited : (s : ℕ) (e f a b : ClassInfo) → e.super_class ≡ Some s → f.super_class ≡ Some s → class_at P s ≡ Some a → class_at Q s ≡ Some b → a.slots ≡ b.slots → inherited_slots P e ≡ inherited_slots Q f
+  same_inherited s e f a b mine theirs at there same =
+      ap (λ o. option_map_or (slots_of P) o []) mine ∙ ap (λ o. option_map_or (λ (e : ClassInfo). e.slots) o []) at ∙ same
+      ∙ sym (ap (λ o. option_map_or (slots_of Q) o []) theirs ∙ ap (λ o. option_map_or (λ (e : ClassInfo). e.slots) o []) there)
+
+  joined : (e f : ClassInfo) → inherited_slots P e ≡ inherited_slots Q f → own_slots P e ≡ own_slots Q f → e.slots ≡ inherited_slots P e ++ own_slots P e → f.slots ≡ inherited_slots Q f ++ own_slots Q f → e.slots ≡ f.slots
+  joined e f above own mine theirs = cc
+
   pub slots_from : (n c : ℕ) → IsTrue (list_any (λ d. d == built_in P Object) (upward P n (Some c))) → (e f : ClassInfo) → class_at P c ≡ Some e → class_at Q c ≡ Some f → e.slots ≡ f.slots
   slots_from zero c ends e f is js = absurd cc
   slots_from (suc n) c ends e f is js = elim (cases_Bool (is_loaded P c)) [
@@ -207,9 +215,7 @@ module _ (classes : List Loaded) (P Q : ProgramTables) (L : Links classes P) (M 
         let b = there classes P Q L M s.0 a.0 a.1 in
         let onward = subst (λ o. IsTrue (list_any (λ d. d == built_in P Object) (upward P n o))) (ap (option_and_then (λ (e : ClassInfo). e.super_class)) is ∙ s.1) (past_head (c == built_in P Object) apart ends) in
         let rest = slots_from n s.0 onward a.0 b.0 a.1 b.1 in
-        let mine : inherited_slots P e ≡ a.0.slots = ap (λ o. option_map_or (slots_of P) o []) s.1 ∙ ap (λ o. option_map_or (λ (e : ClassInfo). e.slots) o []) a.1 in
-        let theirs : inherited_slots Q f ≡ b.0.slots = ap (λ o. option_map_or (slots_of Q) o []) (sym t.super_class ∙ s.1) ∙ ap (λ o. option_map_or (λ (e : ClassInfo). e.slots) o []) b.1 in
-        (L.linked.classes c e is).inherited ∙ ap (λ l. l ++ own_slots P e) (mine ∙ rest ∙ sym theirs) ∙ ap (λ l. inherited_slots Q f ++ l) (one_own c e f is js p) ∙ sym (M.linked.classes c f js).inherited
+      joined e f (same_inherited s.0 e f a.0 b.0 s.1 (sym t.super_class ∙ s.1) a.1 b.1 rest) (one_own c e f is js p) (L.linked.classes c e is).inherited (M.linked.classes c f js).inherited
   ]
     where
       past_head : (b : Bool) → b ≡ false → (b || list_any (λ d. d == built_in P Object) (upward P n (super_of P c))) ≡ true → IsTrue (list_any (λ d. d == built_in P Object) (upward P n (super_of P c)))

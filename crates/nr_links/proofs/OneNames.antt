@@ -3,7 +3,7 @@ use Rattle.std.proofs.Common.{◌≡◌, ℕ, zero, suc, ◌+◌, ◌-◌, ◌<�
 use Rattle.std.specs.Prelude.{Option, Some, None, IsTrue, slice_get, nat_lt, ◌==◌}
 use Rattle.std.specs.List.{list_all}
 use Rattle.std.specs.Option.{option_map, option_map_or}
-use Rattle.std.proofs.lemmas.Bool.{and_parts, cases_Bool, cases_lt, ltb-false, lt-ltb, le-ltb}
+use Rattle.std.proofs.lemmas.Bool.{and_parts, cases_Bool, cases_lt, ltb-false, ltb-true, lt-ltb, le-ltb}
 use Rattle.std.proofs.lemmas.Option.{same_Some, slice_get_within}
 use Rattle.nr_base.specs.declared.desc.types.Desc.{Desc}
 use Rattle.nr_base.specs.declared.desc.types.DescBase.{DescBase}
@@ -16,10 +16,11 @@ use Rattle.nr_linked.specs.declared.program.tables.MethodInfo.{MethodInfo}
 use Rattle.nr_linked.specs.declared.program.tables.ProgramTables.{ProgramTables}
 use Rattle.nr_linked.specs.BuiltInTables.{built_in_infos, built_in_methods}
 use Rattle.nr_linked.specs.KindTexts.{base_desc, class_name, kind_desc}
-use Rattle.nr_linked.specs.Linked.{first_built_in, first_built_in_method, is_class_in, is_kind_in, is_kind_in_or_none, is_loaded}
+use Rattle.nr_linked.specs.Linked.{IsReadAs, first_built_in, first_built_in_method, is_class_in, is_kind_in, is_kind_in_or_none, is_loaded}
 use Rattle.nr_linked.specs.Kinds.{class_in}
 use Rattle.nr_linked.specs.Programs.{class_at, is_interface, method_at}
 use Rattle.nr_links.specs.Links.{Links}
+use Rattle.nr_links.proofs.Descriptors.{name_of}
 use Rattle.nr_links.proofs.Places.{get_below, get_dropped}
 use Rattle.nr_links.proofs.SlotFacts.{LoadedEntry, below_loaded, loaded_entry}
 
@@ -88,8 +89,8 @@ module _ (classes : List Loaded) (P Q : ProgramTables) (L : Links classes P) (M 
   pub record Twins (c : ℕ) (e f : ClassInfo) : Type 0 where
     pub l : Loaded
     pub at : slice_get classes c ≡ Some l
-    pub mine : Rattle.nr_linked.specs.Linked.IsReadAs P c e l.«class»
-    pub theirs : Rattle.nr_linked.specs.Linked.IsReadAs Q c f l.«class»
+    pub mine : IsReadAs P c e l.«class»
+    pub theirs : IsReadAs Q c f l.«class»
 
   pub twins : (c : ℕ) (e f : ClassInfo) → class_at P c ≡ Some e → class_at Q c ≡ Some f → IsTrue (is_loaded P c) → Twins c e f
   twins c e f is js p =
@@ -99,7 +100,7 @@ module _ (classes : List Loaded) (P Q : ProgramTables) (L : Links classes P) (M 
         l = a.l;
         at = a.at;
         mine = a.read_as;
-        theirs = subst (λ (l : Loaded). Rattle.nr_linked.specs.Linked.IsReadAs Q c f l.«class») (same_Some b.l a.l (sym b.at ∙ a.at)) b.read_as;
+        theirs = subst (λ (l : Loaded). IsReadAs Q c f l.«class») (same_Some b.l a.l (sym b.at ∙ a.at)) b.read_as;
       }
 
   -- a class of one is a class of the other
@@ -111,20 +112,25 @@ module _ (classes : List Loaded) (P Q : ProgramTables) (L : Links classes P) (M 
 
   -- ---- names
 
+  twin_name : (c : ℕ) (e f : ClassInfo) → class_at P c ≡ Some e → class_at Q c ≡ Some f → Twins c e f → class_name P c ≡ class_name Q c
+  twin_name c e f is js t =
+      let named = name_of P c e is in
+      let there_named = name_of Q c f js in
+      let same = same_Some e.name f.name (sym t.mine.name ∙ t.theirs.name) in
+      cc
+
+  loaded_name : (c : ℕ) → IsTrue (is_loaded P c) → class_name P c ≡ class_name Q c
+  loaded_name c p =
+      let l = ltb-true c (first_built_in P) p in
+      let e = get_below P.classes c (omega (arith, l)) in
+      let f = there c e.0 e.1 in
+      twin_name c e.0 f.0 e.1 f.1 (twins c e.0 f.0 e.1 f.1 p)
+
   pub same_name : (c : ℕ) → class_name P c ≡ class_name Q c
   same_name c = elim (cases_Bool (is_loaded P c)) [
-    | inl p ↦ loaded_name p
+    | inl p ↦ loaded_name c p
     | inr p ↦ ap (λ o. option_map_or (λ (e : ClassInfo). e.name) o []) (same_past_classes c p)
   ]
-    where
-      loaded_name : IsTrue (is_loaded P c) → class_name P c ≡ class_name Q c
-      loaded_name p =
-          let l = Rattle.std.proofs.lemmas.Bool.ltb-true c (first_built_in P) p in
-          let e = get_below P.classes c (omega (arith, l)) in
-          let f = there c e.0 e.1 in
-          let t = twins c e.0 f.0 e.1 f.1 p in
-          let name = same_Some e.0.name f.0.name (sym t.mine.name ∙ t.theirs.name) in
-          ap (λ o. option_map_or (λ (e : ClassInfo). e.name) o []) e.1 ∙ name ∙ sym (ap (λ o. option_map_or (λ (e : ClassInfo). e.name) o []) f.1)
 
   pub same_names : class_name P ≡ class_name Q
   same_names = same_functions (class_name P) (class_name Q) same_name

@@ -5,6 +5,7 @@ ghost use Rattle.nr_prog.specs.declared.body.loaded.Loaded.{Loaded};
 ghost use Rattle.nr_linked.specs.declared.program.tables.ProgramTables.{ProgramTables};
 ghost use Rattle.nr_linked.specs.Linked.{Linked};
 ghost use Rattle.nr_linked.specs.TypingFacts.{TypingFacts};
+ghost use Rattle.nr_linked.specs.WellTyped.{WellTyped};
 ghost use Rattle.nr_links.specs.Example.{loaded, tables};
 ghost use Rattle.nr_links.specs.Links.{IsDecoded, Links};
 
@@ -22,11 +23,11 @@ pub fn classes_make_one_program()
     ensures { (classes : List Loaded) (P Q : ProgramTables) → All IsDecoded classes → Links classes P → Links classes Q → P ≡ Q }
 {}
 
-/// Promises that some classes link: a class with a field, calls, an exception handler and a frame
-/// map, and an interface that it implements. They have the form of class files and come with the
-/// code that their methods spell. It does nothing.
-#[tactic(auto, using(crate::proofs::ExampleLinks::links, crate::proofs::ExampleDecoded::decoded))]
+/// Promises that some classes link to a well-typed program: a class with a field, calls, an
+/// exception handler and a frame map, and an interface that it implements. They have the form of
+/// class files and come with the code that their methods spell. It does nothing.
 pub fn classes_can_link()
     ensures decoded { All IsDecoded loaded }
     ensures linked { Links loaded tables }
+    ensures typed { WellTyped tables }
 {}
