@@ -5,5 +5,10 @@ pub mod Files
 pub mod Listed
 pub mod Parts
 pub mod Runnable
+pub mod Runs
+pub mod Ends
+pub mod Readers
+pub mod FileReading
+pub mod CodeReading
 pub mod Loadings
 pub mod Names

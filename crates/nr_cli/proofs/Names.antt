@@ -1,5 +1,5 @@
 -- Names of classes, told by reading.
-use Rattle.std.proofs.Common.{◌≡◌, ℕ, Bool, true, false, cond, ◌&&◌, ◌↔◌, List, Option, Some, None, IsTrue, refl}
+use Rattle.std.proofs.Common.{◌≡◌, ℕ, Bool, true, false, cond, ◌&&◌, ◌↔◌, List, Some, None, IsTrue, refl}
 use Rattle.nr_base.specs.Names.{is_name}
 use Rattle.nr_base.specs.LegalNames.{IsClassName, class_from}
 use Rattle.nr_prog.specs.LegalTests.{is_class_text}

@@ -1,5 +1,5 @@
 -- What the program does with its words over a folder's files. The project's own rules.
-use Rattle.std.specs.Prelude.{ℕ, ◌+◌, ◌-◌, List, [], ◌∷◌, length, slice_get, Option, None, Some, Result, Ok, Err, cond, nat_le, Bool, true, ◌&&◌, is_some}
+use Rattle.std.specs.Prelude.{◌≢◌, ℕ, ◌+◌, ◌-◌, List, [], ◌∷◌, length, slice_get, Option, None, Some, Result, Ok, Err, cond, nat_le, Bool, true, ◌&&◌, is_some}
 use Rattle.std.specs.Str.{bytes_eq}
 use Rattle.nr_outside.specs.Folder.{ToldFile, class_paths, file_at}
 use Rattle.nr_cli.specs.Words.{Command, command_of}
@@ -17,7 +17,7 @@ use Rattle.nr_cli.specs.declared.machine.Outcome.{Outcome}
 use Rattle.nr_cli.specs.declared.machine.Outcome.TheVariants.{Returned as RunReturned, BudgetSpent}
 use Rattle.nr_cli.specs.declared.ending.LoadFault.TheVariants.{Read, Code as CodeRefused, OutOfThinForm, FileTooLong, FolderTooLong}
 use Rattle.nr_cli.specs.declared.ending.End.{End}
-use Rattle.nr_cli.specs.declared.ending.End.TheVariants.{Returned, Words, Class, NoClass, ReservedName, Budget, Memory}
+use Rattle.nr_cli.specs.declared.ending.End.TheVariants.{Returned, Words, Folder, Class, NoClass, ReservedName, Budget, Memory}
 
 -- the end of the run
 abbrev pub ended : ℕ → Option Outcome → End
@@ -115,3 +115,8 @@ end_of words files = of_command (command_of words) files
 abbrev pub are_listed : List ℕ → List ToldFile → List (List ℕ) → Bool
 are_listed dir files [] = true
 are_listed dir files (path ∷ paths) = is_some (file_at dir path files) && are_listed dir files paths
+
+-- nothing failed: neither memory nor the folder
+pub record NothingFailed (end : End) : Type 0 where
+  pub memory : end ≢ Memory
+  pub folder : end ≢ Folder

@@ -2,6 +2,7 @@
 #![tactic(auto)]
 
 mod ending;
+mod law;
 mod load;
 mod machine;
 mod plan;
@@ -11,4 +12,5 @@ mod thin;
 mod top;
 mod words;
 
+pub use law::nothing_fails_by_itself;
 pub use top::nrmi;

@@ -23,7 +23,7 @@ fn add(stack: &mut Vec<i32>) -> Result<(), AllocError>
     requires { 2 ≤ vec_len stack.old }
     ensures height { OnOk result (vec_len stack.new ≡ vec_len stack.old - 1) }
     ensures stack { OnOk result
-        (reverse stack.new.items ≡ stack_after 96 (reverse stack.old.items)) }
+        (stack_after 96 (reverse stack.old.items) ≡ Some (reverse stack.new.items)) }
 {
     let right = stack.pop().unwrap();
     let left = stack.pop().unwrap();
@@ -33,12 +33,12 @@ fn add(stack: &mut Vec<i32>) -> Result<(), AllocError>
 
 // An instruction that isn't ireturn.
 fn step(stack: &mut Vec<i32>, op: u8) -> Result<(), AllocError>
-    requires code { (op ≡ 96) ⊎ (op ≤ 8) }
+    requires code { (op ≡ 96) ⊎ ((2 ≤ op) × (op ≤ 8)) }
     requires operands { op ≡ 96 → 2 ≤ vec_len stack.old }
     ensures height { OnOk result
         (vec_len stack.new ≡ cond (op == 96) (vec_len stack.old - 1) (vec_len stack.old + 1)) }
     ensures stack { OnOk result
-        (reverse stack.new.items ≡ stack_after op (reverse stack.old.items)) }
+        (stack_after op (reverse stack.old.items) ≡ Some (reverse stack.new.items)) }
 {
     if op == IADD {
         return add(stack);

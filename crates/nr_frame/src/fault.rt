@@ -9,7 +9,7 @@ use std::alloc::AllocError;
 #[derive(Clone, Copy, Debug, PartialEq, Eq)]
 pub enum FrameFault {
     /// The body has this length in bytes, above 4,194,304.
-    FrameTooLong(u32),
+    FrameTooLong(u64),
     /// The kind has this code, which the reader's side doesn't read.
     FrameKind(u8),
 }

@@ -21,7 +21,7 @@ pub(crate) fn header_fault(side: Side, bytes: &[u8]) -> Option<FrameFault>
     };
     let body_len = u32::from_be_bytes([*a, *b, *c, *d]);
     if body_len > MAX_BODY {
-        return Some(FrameFault::FrameTooLong(body_len));
+        return Some(FrameFault::FrameTooLong(u64::from(body_len)));
     }
     if side.reads(*code) {
         None

@@ -22,7 +22,7 @@ pub enum FrameKind {
 
 impl FrameKind {
     /// The byte that a frame has for its kind.
-    pub(crate) fn code(self) -> u8
+    pub fn code(self) -> u8
         ensures { result ≡ code_of self }
     {
         match self {

@@ -2,7 +2,7 @@
 
 ghost use Rattle.std.specs.Prelude.{◌≡◌, IfOk, length};
 
-use crate::{FeedError, FrameFault, FrameKind, FrameReader, Side, frame_bytes};
+use crate::{FeedError, FrameFault, FrameKind, FrameReader, MAX_BODY, Side, frame_bytes};
 use std::alloc::{AllocError, Global};
 use std::process::Abort;
 use std::test::Fail;
@@ -145,21 +145,44 @@ fn sevens(alloc: Global, count: usize) -> Result<Vec<u8>, AllocError>
     Ok(vec![in alloc; 7; count]?)
 }
 
+// A side, a kind and how many bytes a body has; then the frame's header and how many bytes it has. The first frame is
+// as long as a frame may be.
 #[test]
-fn longest(rt: HostRuntime) -> Result<(), Fail> {
-    let body = sevens(rt.alloc(), 4_194_304)?;
-    let bytes = frame_bytes(rt.alloc(), FrameKind::Reply, &body)?;
-    assert!(rt; bytes.starts_with(b"\x00\x40\x00\x00\x04\x07"));
-    let mut reader = FrameReader::new(rt.alloc(), Side::Client);
-    assert_eq!(rt; reader.feed(&bytes), Ok(()));
-    assert!(rt; !reader.is_empty());
-    match reader.next(rt.alloc())? {
-        Some(frame) => {
-            assert_eq!(rt; frame.kind, FrameKind::Reply);
-            assert_eq!(rt; frame.body.as_slice(), body.as_slice());
+fn written(rt: HostRuntime) -> Result<(), Fail> {
+    let table: [(Side, FrameKind, usize, &[u8], usize); 3] = [
+        (
+            Side::Client,
+            FrameKind::Reply,
+            4_194_304,
+            b"\x00\x40\x00\x00\x04",
+            4_194_309,
+        ),
+        (
+            Side::Server,
+            FrameKind::Call,
+            57,
+            b"\x00\x00\x00\x39\x02",
+            62,
+        ),
+        (Side::Server, FrameKind::Go, 0, b"\x00\x00\x00\x00\x03", 5),
+    ];
+    for (side, kind, count, header, len) in table {
+        let body = sevens(rt.alloc(), count)?;
+        assert!(rt; body.len() <= MAX_BODY as usize);
+        let bytes = frame_bytes(rt.alloc(), kind, &body)?;
+        assert!(rt; bytes.starts_with(header));
+        assert_eq!(rt; bytes.len(), len);
+        let mut reader = FrameReader::new(rt.alloc(), side);
+        assert_eq!(rt; reader.feed(&bytes), Ok(()));
+        assert!(rt; !reader.is_empty());
+        match reader.next(rt.alloc())? {
+            Some(frame) => {
+                assert_eq!(rt; frame.kind, kind);
+                assert_eq!(rt; frame.body.as_slice(), body.as_slice());
+            }
+            None => assert!(rt; false, "no frame"),
         }
-        None => assert!(rt; false, "no frame"),
+        assert!(rt; reader.is_empty());
     }
-    assert!(rt; reader.is_empty());
     Ok(())
 }

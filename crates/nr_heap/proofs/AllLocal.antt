@@ -12,9 +12,9 @@ use Rattle.nr_heap.proofs.Matchings.{Matched, AlikeState}
 use Rattle.nr_linked.specs.declared.program.tables.ProgramTables.{ProgramTables}
 use Rattle.nr_heap.specs.CallRules.{operands_of}
 use Rattle.nr_heap.specs.Steps.{given, first_frame, entered, script_at, within, StepOf, Step, Run}
-use Rattle.nr_heap.specs.Locals.{start_of, CallRun}
-use Rattle.nr_heap.specs.Same.{OldAndResults, Same}
-use Rattle.nr_heap.specs.LocalEntries.{AllRestorable, IsLocal, EachLocal}
+use Rattle.nr_heap.specs.Locals.{start_of, CallRun, Local}
+use Rattle.nr_heap.specs.Same.{OldAndResults, SameReached}
+use Rattle.nr_heap.specs.LocalEntries.{AllRestorable, IsLocal, EachLocal, IsOwn, EachOwn}
 use Rattle.nr_heap.specs.Asks.{Asks, asked_args, waiting, Answered, Entry, AnswerStep, AskStep, AskRun, arrived, own, asked}
 use Rattle.nr_heap.specs.Overs.{over, with_front}
 use Rattle.std.specs.Prelude.{is_some}
@@ -72,6 +72,27 @@ module _ (P : ProgramTables) (service : Option ℕ) (s : State) (a : Asks P serv
           then Some (Running (first_frame i a.method (take (operands_of i) a.frame.operands) ∷ record a.frame { operands = drop (operands_of i) a.frame.operands } ∷ a.below))
           else None) o) a.called
           ∙ ap (λ b. if b then Some inside_control else None) a.enough
+
+-- ---- the machine alone, through the call that is asked for
+
+module _ (P : ProgramTables) (service : Option ℕ) (fault : ℕ) (s m : State) (e : Entry) (a : AskStep P service fault s e m) (restorable : AllRestorable P e.before e.args)
+    (n : ℕ) (t : State) (v : Option Value) (ran : Local P e.before e.method e.args n t) (returned : t.control ≡ Returned v) where
+  -- the local run from the state that asks
+  here : CallRun P s.heap a.asks.method (asked_args a.asks) n t
+  here = subst (λ m. CallRun P s.heap m (asked_args a.asks) n t) a.method
+      (subst (λ h. CallRun P h e.method (asked_args a.asks) n t) a.before
+      (subst (λ vs. CallRun P e.before e.method vs n t) a.args (plain_run P e.before e.args restorable e.method n t ran)))
+
+  from_first : Run P (first P service s a.asks) n t
+  from_first = subst (λ z. Run P z n t) (is_there _ a.asks.info _ a.asks.called here.begins) here.run
+
+  through_the_call : (c : Control) → given P v (waiting a.asks) ≡ Some c → Run P s (suc n) (with_front s.printed c t)
+  through_the_call c e = (
+    with_front s.printed (inside_control P service s a.asks) (first P service s a.asks),
+    enters P service s a.asks,
+    run_over P (waiting a.asks) s.printed n (first P service s a.asks) t (inside_control P service s a.asks) c refl
+        (ap (over P (waiting a.asks)) returned ∙ e) from_first,
+  )
 
 -- ---- a heap beside itself, where it is beside another
 
@@ -146,8 +167,8 @@ module _ (P : ProgramTables) (service : Option ℕ) (fault : ℕ) (Q : ℕ → �
   pub old_j : (x y : ℕ) → Q x y → J x x
   old_j x y r = in_j x x (inl (held_left Q _ _ (q.heap.alike x y r), refl))
 
-  pub same_here : Same s.heap l.state.heap l.result l.after l.value
-  same_here = subst (λ h. Same h l.state.heap l.result l.after l.value) a.before l.same
+  pub same_here : SameReached s.heap l.state.heap l.result l.after l.value
+  same_here = subst (λ h. SameReached h l.state.heap l.result l.after l.value) a.before l.same
 
   pub answered : AnswerStep P fault (waiting a.asks) (Answered l.after l.value l.printed) s m
   answered = subst (λ r. AnswerStep P fault (waiting a.asks) r s m) l.answer a.answer
@@ -176,23 +197,8 @@ module _ (P : ProgramTables) (service : Option ℕ) (fault : ℕ) (Q : ℕ → �
   }
 
   module _ (restorable : AllRestorable P e.before e.args) where
-    -- the local run from the state that asks
-    here : CallRun P s.heap a.asks.method (asked_args a.asks) l.steps l.state
-    here = subst (λ m. CallRun P s.heap m (asked_args a.asks) l.steps l.state) a.method
-        (subst (λ h. CallRun P h e.method (asked_args a.asks) l.steps l.state) a.before
-        (subst (λ vs. CallRun P e.before e.method vs l.steps l.state) a.args
-        (plain_run P e.before e.args restorable e.method l.steps l.state l.local)))
-
-    ran : Run P (first P service s a.asks) l.steps l.state
-    ran = subst (λ z. Run P z l.steps l.state) (is_there _ a.asks.info _ a.asks.called here.begins) here.run
-
     whole : Run P s (suc l.steps) after_local
-    whole = (
-      with_front s.printed (inside_control P service s a.asks) (first P service s a.asks),
-      enters P service s a.asks,
-      run_over P (waiting a.asks) s.printed l.steps (first P service s a.asks) l.state (inside_control P service s a.asks) led.0 refl
-          (ap (over P (waiting a.asks)) l.returned ∙ led.1) ran,
-    )
+    whole = through_the_call P service fault s m e a restorable l.steps l.state l.result l.local l.returned led.0 led.1
 
     pub remote_onward : Onward P Q t m
     remote_onward =
@@ -229,3 +235,20 @@ module _ (P : ProgramTables) (service : Option ℕ) (fault : ℕ) where
   pairs_all_local ps k s t s' calls a r l =
       let o = all_local k (PairsOf ps s t a) s t s' calls (states_match ps s t a) r l in
       (o.steps, o.state, o.run, states_pair ps o.now s' o.state o.alike (λ x y i. o.older x y (start_pair (StartOf ps s t) s.heap t.heap x y (inl i))))
+
+-- ---- where each call is answered by just what a local run left, the machine alone comes to the same state
+
+module _ (P : ProgramTables) (service : Option ℕ) (fault : ℕ) where
+  own_step : (s m : State) (e : Entry) → AskStep P service fault s e m → IsOwn P e → AllRestorable P e.before e.args → (n : ℕ) × Run P s n m
+  own_step s m e a o restorable =
+      let answer : AnswerStep P fault (waiting a.asks) (Answered o.state.heap o.result o.state.printed) s m = subst (λ r. AnswerStep P fault (waiting a.asks) r s m) o.answer a.answer in
+      let arrives : with_front s.printed m.control o.state ≡ m = (λ i. record { heap = sym answer.0 i; control = m.control; printed = sym answer.2 i }) in
+      (suc o.steps, subst (λ m. Run P s (suc o.steps) m) arrives (through_the_call P service fault s m e a restorable o.steps o.state o.result o.local o.returned m.control answer.1))
+
+  pub all_own : (k : ℕ) (s t : State) (calls : List Entry) → AskRun P service fault s calls k t → EachOwn P calls → (n : ℕ) × Run P s n t
+  all_own k s t calls arrived o = (zero, refl)
+  all_own k s t calls (own m n d r) o = let w = all_own _ m t _ r o in (suc w.0, (m, d, w.1))
+  all_own k s t calls (asked {e = e} m a r) o =
+      let f = own_step s m e a o.0 o.1 in
+      let w = all_own _ m t _ r o.2 in
+      (plus f.0 w.0, run_join P f.0 w.0 s m t f.1 w.1)

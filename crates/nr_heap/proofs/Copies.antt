@@ -30,7 +30,7 @@ name_same m a n = get-insert nat_cmp_total m a n a ∙ ap (λ b. cond b (Some n)
 name_other : (m : FinMap nat_cmp ℕ) (a q n : ℕ) → q ≢ a → get (insert m a n) q ≡ get m q
 name_other m a q n d = get-insert nat_cmp_total m a n q ∙ ap (λ b. cond b (Some n) (get m q)) (not_equal q a _ refl d)
 
-abbrev pub IsKey : List (ℕ × ℕ) → ℕ → Type 0
+abbrev pub IsKey : {X : Type 0} → List (ℕ × X) → ℕ → Type 0
 IsKey [] x = ⊥
 IsKey (e ∷ es) x = (x ≡ e.0) ⊎ IsKey es x
 
@@ -46,7 +46,7 @@ key_found (e ∷ es) x (inr i) = go (eq_by_cmp nat_cmp x e.0) (key_found es x i)
     go true n f = none_some (sym f)
     go false n f = n f
 
-pub found_key : (es : List (ℕ × ℕ)) (x : ℕ) → find nat_cmp x es ≢ None → IsKey es x
+pub found_key : {X : Type 0} (es : List (ℕ × X)) (x : ℕ) → find nat_cmp x es ≢ None → IsKey es x
 found_key [] x n = absurd (n refl)
 found_key (e ∷ es) x n = go (ℕ_discrete x e.0) (found_key es x)
   where

@@ -7,3 +7,6 @@ pub mod Objects
 pub mod Calls
 pub mod Runs
 pub mod Restored
+pub mod BoxRun
+pub mod BoxCopied
+pub mod BoxRestored

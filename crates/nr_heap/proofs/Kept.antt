@@ -1,8 +1,8 @@
 -- Paired states, by paths, are states that agree under a relation of names that holds the start; so runs keep them.
-use Rattle.std.proofs.Common.{◌≡◌, ℕ, List, [], refl, subst, inl, inr}
+use Rattle.std.proofs.Common.{◌≡◌, ℕ, ◌+◌, List, [], refl, subst, inl, inr}
 use Rattle.std.specs.Prelude.{Option, Some}
 use Rattle.nr_heap.specs.declared.value.Value.{Value}
-use Rattle.nr_heap.specs.Heaps.{Heap}
+use Rattle.nr_heap.specs.Heaps.{Heap, cells}
 use Rattle.nr_heap.specs.States.{Frame, Control, State, IsEnd}
 use Rattle.nr_heap.specs.Alike.{Like, like_int, like_long, like_null, like_ref, AlikeFrames, no_frame, one_frame, AlikeResult, no_result, one_result, AlikeControl, both_run, both_return, both_throw, Any}
 use Rattle.nr_heap.specs.Pairs.{name_in, IsPair, Listed, InFrames, InResults, InControl, StartOf, PairedStates}
@@ -91,6 +91,9 @@ module _ (P : ProgramTables) (n : ℕ) (ps : List (ℕ × ℕ)) (s t s' : State)
   pairs_kept t' q =
       let l : LaterState (PairsOf ps s t a) s t s' t' = runs_paired P n (PairsOf ps s t a) s t s' t' (states_match ps s t a) p q in
       states_pair ps l.now s' t' l.alike (λ x y i. l.moved.older x y (start_pair (StartOf ps s t) s.heap t.heap x y (inl i)))
+
+  pub pairs_grown : (t' : State) → Run P t n t' → cells s'.heap + cells t.heap ≡ cells t'.heap + cells s.heap
+  pairs_grown t' q = (runs_paired P n (PairsOf ps s t a) s t s' t' (states_match ps s t a) p q).moved.grown
 
   pub pairs_run_too : (t' : State) × Run P t n t'
   pairs_run_too = run_too P n (PairsOf ps s t a) s t s' (states_match ps s t a) p

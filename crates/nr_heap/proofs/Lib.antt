@@ -13,6 +13,7 @@ pub mod Reached
 pub mod Wp
 pub mod Over
 pub mod Outcomes
+pub mod Smaller
 pub mod Plain
 pub mod Relations
 pub mod Restores
@@ -23,3 +24,6 @@ pub mod Copies
 pub mod OtherCopies
 pub mod BothCopies
 pub mod OwnRuns
+pub mod Closed
+pub mod OwnCalls
+pub mod ListedHeaps

@@ -16,7 +16,7 @@ use Rattle.nr_linked.specs.Programs.{method_at}
 use Rattle.nr_heap.specs.CallRules.{operands_of}
 use Rattle.nr_heap.specs.Steps.{unwound, given, Run}
 use Rattle.nr_heap.specs.Locals.{start_of, CopyArgs, Local}
-use Rattle.nr_heap.specs.Same.{Same}
+use Rattle.nr_heap.specs.Same.{SameReached}
 use Rattle.nr_heap.specs.LocalEntries.{IsLocal, IsFaulted, IsOwn, Mirrors, no_call, answered_call, faulted_call, EachLocalOrFaulted}
 use Rattle.nr_heap.specs.Asks.{Asks, asked_args, waiting, Answered, Faulted, Entry, AnswerStep, AskStep, AskRun, arrived, own, asked}
 use Rattle.nr_heap.specs.Throws.{zeros}
@@ -207,7 +207,7 @@ module _ (P : ProgramTables) (service : Option ℕ) (fault : ℕ) (Q : ℕ → �
     answer_here : AnswerStep P fault (waiting a.asks) (Answered l.after l.value l.printed) s m
     answer_here = answered P service fault Q s t m e q a l
 
-    same_there : Same s.heap l.state.heap l.result l.after l.value
+    same_there : SameReached s.heap l.state.heap l.result l.after l.value
     same_there = same_here P service fault Q s t m e q a l
 
     values : AlikeResult Now l.value ended.0

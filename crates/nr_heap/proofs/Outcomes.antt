@@ -27,7 +27,7 @@ module _ (P : ProgramTables) (R : ℕ → ℕ → Type 0) where
       let d = frames_deep _ _ bs in
       (ap suc d.0, ap₂ (λ m n. option_map_or (λ i. i.max_locals + i.max_stack) (method_at P m) 0 + n) a.method d.1)
 
-  deep_alike : (c d : Control) → AlikeControl R c d → is_too_deep P c ≡ is_too_deep P d
+  pub deep_alike : (c d : Control) → AlikeControl R c d → is_too_deep P c ≡ is_too_deep P d
   deep_alike c d (both_run {fs} {gs} bs) =
       let e = frames_deep fs gs bs in
       ap₂ (λ n k. nat_lt max_frames n || nat_lt max_value_slots k) e.0 e.1
@@ -50,7 +50,7 @@ pub record LaterFate (R : ℕ → ℕ → Type 0) (n k : ℕ) (f g : Fate) (s t 
   pub fate : f ≡ g
   pub now : ℕ → ℕ → Type 0
   pub older : (x y : ℕ) → R x y → now x y
-  pub alike : AlikeState now s t
+  pub level : Level now s t
 
 module _ (P : ProgramTables) where
   level_after : (R : ℕ → ℕ → Type 0) (s t s' t' : State) → Level R s t → (l : LaterState R s t s' t') → Level l.now s' t'
@@ -60,20 +60,20 @@ module _ (P : ProgramTables) where
   fates_differ R s t f a p q = none_some (sym q ∙ sym (passed_alike P R s t a.alike a.size) ∙ p)
 
   later_fate : (R S : ℕ → ℕ → Type 0) (n k : ℕ) (f g : Fate) (s t : State) → ((x y : ℕ) → R x y → S x y) → LaterFate S n k f g s t → LaterFate R (suc n) (suc k) f g s t
-  later_fate R S n k f g s t more l = record { steps = ap suc l.steps; fate = l.fate; now = l.now; older = λ x y r. l.older x y (more x y r); alike = l.alike }
+  later_fate R S n k f g s t more l = record { steps = ap suc l.steps; fate = l.fate; now = l.now; older = λ x y r. l.older x y (more x y r); level = l.level }
 
   pub outcomes_alike : (R : ℕ → ℕ → Type 0) (s t s' t' : State) (b n k : ℕ) (f g : Fate) → Level R s t → Outcome P s b n f s' → Outcome P t b k g t' → LaterFate R n k f g s' t'
-  outcomes_alike R s t s' t' b n k f g a (ended e) (ended d) = record { steps = refl; fate = refl; now = R; older = λ x y r. r; alike = a.alike }
+  outcomes_alike R s t s' t' b n k f g a (ended e) (ended d) = record { steps = refl; fate = refl; now = R; older = λ x y r. r; level = a }
   outcomes_alike R s t s' t' b n k f g a (ended e) (spent d) = absurd (d (end_over R _ _ a.alike.control e))
   outcomes_alike R s t s' t' b n k f g a (ended e) (limited m q d) = absurd (no_step P t.control t m (end_over R _ _ a.alike.control e) q)
   outcomes_alike R s t s' t' b n k f g a (ended e) (further m q d o) = absurd (no_step P t.control t m (end_over R _ _ a.alike.control e) q)
   outcomes_alike R s t s' t' b n k f g a (spent e) (ended d) = absurd (e (end_back R _ _ a.alike.control d))
-  outcomes_alike R s t s' t' b n k f g a (spent e) (spent d) = record { steps = refl; fate = refl; now = R; older = λ x y r. r; alike = a.alike }
+  outcomes_alike R s t s' t' b n k f g a (spent e) (spent d) = record { steps = refl; fate = refl; now = R; older = λ x y r. r; level = a }
   outcomes_alike R s t s' t' b n k f g a (limited m p e) (ended d) = absurd (no_step P s.control s m (end_back R _ _ a.alike.control d) p)
   outcomes_alike R s t s' t' b n k f g a (limited m p e) (limited w q d) =
       let l = steps_paired P R s t m w a.alike p q in
       let v = level_after R s t m w a l in
-      record { steps = refl; fate = some_eq (sym e ∙ passed_alike P l.now m w v.alike v.size ∙ d); now = R; older = λ x y r. r; alike = a.alike }
+      record { steps = refl; fate = some_eq (sym e ∙ passed_alike P l.now m w v.alike v.size ∙ d); now = R; older = λ x y r. r; level = a }
   outcomes_alike R s t s' t' b n k f g a (limited m p e) (further w q d o) =
       let l = steps_paired P R s t m w a.alike p q in
       absurd (fates_differ l.now m w f (level_after R s t m w a l) e d)
@@ -130,14 +130,17 @@ module _ (P : ProgramTables) (ps : List (ℕ × ℕ)) (s t s' : State) (b n : �
   pub pairs_outcome : (t' : State) (k : ℕ) (g : Fate) → Outcome P t b k g t' → (n ≡ k) × (f ≡ g) × PairedStates ps s' t'
   pairs_outcome t' k g u =
       let l = outcomes_alike P (PairsOf ps s t a) s t s' t' b n k f g level o u in
-      (l.steps, l.fate, states_pair ps l.now s' t' l.alike (λ x y i. l.older x y (start_pair (StartOf ps s t) s.heap t.heap x y (inl i))))
+      (l.steps, l.fate, states_pair ps l.now s' t' l.level.alike (λ x y i. l.older x y (start_pair (StartOf ps s t) s.heap t.heap x y (inl i))))
+
+  pub pairs_outcome_cells : (t' : State) (k : ℕ) (g : Fate) → Outcome P t b k g t' → cells s'.heap ≡ cells t'.heap
+  pairs_outcome_cells t' k g u = (outcomes_alike P (PairsOf ps s t a) s t s' t' b n k f g level o u).level.size
 
   pub pairs_outcome_too : (t' : State) × Outcome P t b n f t'
   pairs_outcome_too = outcome_too P (PairsOf ps s t a) s t s' b n f level o
 
 -- ---- the outcomes of calls
 
-begins_one : (P : ProgramTables) (h : Heap) (m : ℕ) (args : List Value) (s t : State) → Begins P h m args s → Begins P h m args t → s ≡ t
+pub begins_one : (P : ProgramTables) (h : Heap) (m : ℕ) (args : List Value) (s t : State) → Begins P h m args s → Begins P h m args t → s ≡ t
 begins_one P h m args s t p q = go (method_at P m) p q
   where
     go : (o : Option MethodInfo) → IsSomeAnd o (λ i. s ≡ start_of i m h args) → IsSomeAnd o (λ i. t ≡ start_of i m h args) → s ≡ t
@@ -145,7 +148,7 @@ begins_one P h m args s t p q = go (method_at P m) p q
     go (Some i) p q = p ∙ sym q
 
 -- the first state with the fact that chooses its fate
-begins_heap : (P : ProgramTables) (h : Heap) (m : ℕ) (args : List Value) (s : State) → Begins P h m args s → s.heap ≡ h
+pub begins_heap : (P : ProgramTables) (h : Heap) (m : ℕ) (args : List Value) (s : State) → Begins P h m args s → s.heap ≡ h
 begins_heap P h m args s p = go (method_at P m) p
   where
     go : (o : Option MethodInfo) → IsSomeAnd o (λ i. s ≡ start_of i m h args) → s.heap ≡ h
@@ -163,15 +166,33 @@ module _ (P : ProgramTables) (ps : List (ℕ × ℕ)) (h k : Heap) (m : ℕ) (us
   same_size : cells s.heap ≡ cells t.heap
   same_size = ap cells (begins_heap P h m us s bs) ∙ size ∙ sym (ap cells (begins_heap P k m vs t bt))
 
+  depth_differs : (u v : State) → Begins P h m us u → Begins P k m vs v → is_too_deep P u.control ≡ true → is_too_deep P v.control ≡ false → ⊥
+  depth_differs u v p q d e = not_both (is_too_deep P t.control) (sym same_depth ∙ ap (λ s. is_too_deep P s.control) (begins_one P h m us s u bs p) ∙ d)
+      (ap (λ s. is_too_deep P s.control) (begins_one P k m vs t v bt q) ∙ e)
+
+  depth_differs_back : (u v : State) → Begins P h m us u → Begins P k m vs v → is_too_deep P u.control ≡ false → is_too_deep P v.control ≡ true → ⊥
+  depth_differs_back u v p q d e = not_both (is_too_deep P s.control) (same_depth ∙ ap (λ s. is_too_deep P s.control) (begins_one P k m vs t v bt q) ∙ e)
+      (ap (λ s. is_too_deep P s.control) (begins_one P h m us s u bs p) ∙ d)
+
   pub pairs_call : (s' t' : State) (b n l : ℕ) (f g : Fate) → CallOutcome P h m us b n f s' → CallOutcome P k m vs b l g t' → (n ≡ l) × (f ≡ g) × PairedStates ps s' t'
   pairs_call s' t' b n l f g (too_deep p d) (too_deep q e) =
       (refl, refl, subst₂ (PairedStates ps) (begins_one P h m us s s' bs p) (begins_one P k m vs t t' bt q) a)
-  pairs_call s' t' b n l f g (too_deep p d) (begun u q e o) =
-      absurd (not_both (is_too_deep P t.control) (sym same_depth ∙ ap (λ s. is_too_deep P s.control) (begins_one P h m us s s' bs p) ∙ d)
-      (ap (λ s. is_too_deep P s.control) (begins_one P k m vs t u bt q) ∙ e))
-  pairs_call s' t' b n l f g (begun u p d o) (too_deep q e) =
-      absurd (not_both (is_too_deep P s.control) (same_depth ∙ ap (λ s. is_too_deep P s.control) (begins_one P k m vs t t' bt q) ∙ e)
-      (ap (λ s. is_too_deep P s.control) (begins_one P h m us s u bs p) ∙ d))
+  pairs_call s' t' b n l f g (too_deep p d) (begun u q e o) = absurd (depth_differs s' u p q d e)
+  pairs_call s' t' b n l f g (begun u p d o) (too_deep q e) = absurd (depth_differs_back u t' p q d e)
   pairs_call s' t' b n l f g (begun u p d o) (begun w q e r) =
       pairs_outcome P ps s t s' b n f a same_size (subst (λ s. Outcome P s b n f s') (begins_one P h m us u s p bs) o)
       t' l g (subst (λ t. Outcome P t b l g t') (begins_one P k m vs w t q bt) r)
+
+  pub pairs_call_cells : (s' t' : State) (b n l : ℕ) (f g : Fate) → CallOutcome P h m us b n f s' → CallOutcome P k m vs b l g t' → cells s'.heap ≡ cells t'.heap
+  pairs_call_cells s' t' b n l f g (too_deep p d) (too_deep q e) = ap cells (begins_heap P h m us s' p) ∙ size ∙ sym (ap cells (begins_heap P k m vs t' q))
+  pairs_call_cells s' t' b n l f g (too_deep p d) (begun u q e o) = absurd (depth_differs s' u p q d e)
+  pairs_call_cells s' t' b n l f g (begun u p d o) (too_deep q e) = absurd (depth_differs_back u t' p q d e)
+  pairs_call_cells s' t' b n l f g (begun u p d o) (begun w q e r) =
+      pairs_outcome_cells P ps s t s' b n f a same_size (subst (λ s. Outcome P s b n f s') (begins_one P h m us u s p bs) o)
+      t' l g (subst (λ t. Outcome P t b l g t') (begins_one P k m vs w t q bt) r)
+
+  pub pairs_call_too : (s' : State) (b n : ℕ) (f : Fate) → CallOutcome P h m us b n f s' → (t' : State) × CallOutcome P k m vs b n f t'
+  pairs_call_too s' b n f (too_deep p d) = (t, too_deep bt (sym same_depth ∙ ap (λ s. is_too_deep P s.control) (begins_one P h m us s s' bs p) ∙ d))
+  pairs_call_too s' b n f (begun u p d o) =
+      let r = pairs_outcome_too P ps s t s' b n f a same_size (subst (λ s. Outcome P s b n f s') (begins_one P h m us u s p bs) o) in
+      (r.0, begun t bt (sym same_depth ∙ ap (λ s. is_too_deep P s.control) (begins_one P h m us s u bs p) ∙ d) r.1)

@@ -11,7 +11,7 @@ use Rattle.nr_heap.proofs.Heaps.{at_more}
 pub none_some : {X : Type 0} {a : X} → ◌≡◌ {A = Option X} None (Some a) → ⊥
 none_some e = cc
 
-bound : {X Y : Type 0} (o : Option X) (f : X → Option Y) (y : Y) → on_some o None f ≡ Some y → (x : X) × (o ≡ Some x) × (f x ≡ Some y)
+pub bound : {X Y : Type 0} (o : Option X) (f : X → Option Y) (y : Y) → on_some o None f ≡ Some y → (x : X) × (o ≡ Some x) × (f x ≡ Some y)
 bound None f y e = absurd (none_some e)
 bound (Some x) f y e = (x, refl, e)
 

@@ -48,7 +48,7 @@ module _ (h : Heap) (Root : ℕ → Type 0) (held : (x : ℕ) → Reach h Root x
 
 -- a state beside itself, where the names of its frames are of one kind
 module _ (R : ℕ → ℕ → Type 0) where
-  list_self : (us : List Value) → ((i a : ℕ) → name_at us i ≡ Some a → R a a) → AllLike R us us
+  pub list_self : (us : List Value) → ((i a : ℕ) → name_at us i ≡ Some a → R a a) → AllLike R us us
   list_self [] k = no_more
   list_self (Int n ∷ us) k = one_more like_int (list_self us (λ i. k (suc i)))
   list_self (Long n ∷ us) k = one_more like_long (list_self us (λ i. k (suc i)))

@@ -109,7 +109,7 @@ module _ (R : ℕ → ℕ → Type 0) (h k : Heap) (m : Matched R h k) where
   slot_over us vs zero x (one_more (like_ref {y = y} r) ls) e = (y, refl, subst (λ x. R x y) (some_eq e) r)
   slot_over us vs (suc i) x (one_more l ls) e = slot_over _ _ i x ls e
 
-  name_over : (o p : Option Obj) (i x : ℕ) → AlikeAt R o p → on_some o None (λ o. name_at o.slots i) ≡ Some x
+  pub name_over : (o p : Option Obj) (i x : ℕ) → AlikeAt R o p → on_some o None (λ o. name_at o.slots i) ≡ Some x
       → (y : ℕ) × (on_some p None (λ o. name_at o.slots i) ≡ Some y) × R x y
   name_over o p i x (alike_at a) e = slot_over _ _ i x a.slots e
 

@@ -5,7 +5,7 @@ use Rattle.std.specs.FinMap.{get}
 use Rattle.nr_heap.specs.declared.value.Value.{Value}
 use Rattle.nr_heap.specs.Heaps.{Heap}
 use Rattle.nr_heap.specs.States.{Frame, Control, Running, Returned, Thrown, State}
-use Rattle.nr_heap.specs.Alike.{like_int, like_long, like_null, like_ref, AlikeAt, AlikeResult, no_result, one_result, AlikeControl, both_run, both_return, both_throw, Any}
+use Rattle.nr_heap.specs.Alike.{AlikeAt, AlikeResult, AlikeControl, both_run, both_return, both_throw, Any}
 use Rattle.nr_heap.specs.Pairs.{slot_name, IsPair, Listed, StartOf, PairedStates}
 use Rattle.nr_heap.proofs.Matchings.{Matched, OnLeft, Moved}
 use Rattle.nr_linked.specs.declared.program.tables.ProgramTables.{ProgramTables}
@@ -15,6 +15,7 @@ use Rattle.nr_heap.specs.LocalEntries.{BackAndResults, RestoresPairs}
 use Rattle.std.proofs.Math.Decide.{ℕ_discrete}
 use Rattle.nr_heap.proofs.Heaps.{sum_left, at_more}
 use Rattle.nr_heap.proofs.Paths.{at_match, paired_matched, matched_paired}
+use Rattle.nr_heap.proofs.Frames.{result_more}
 use Rattle.nr_heap.proofs.Runs.{LaterState, runs_paired}
 use Rattle.nr_heap.proofs.Kept.{PairsOf, states_match, start_pair, result_match, result_names}
 use Rattle.nr_heap.proofs.Reached.{any_at, both_eq}
@@ -76,7 +77,7 @@ module _ (h h1 h0 hL hS hR : Heap) (R S T : ℕ → ℕ → Type 0)
   joined = record { one_right = joined_right; one_left = joined_left; alike = joined_at }
 
 -- whether a name is the first of a listed pair
-on_list : (ps : List (ℕ × ℕ)) (x : ℕ) → OnLeft (Listed ps) x ⊎ (OnLeft (Listed ps) x → ⊥)
+pub on_list : (ps : List (ℕ × ℕ)) (x : ℕ) → OnLeft (Listed ps) x ⊎ (OnLeft (Listed ps) x → ⊥)
 on_list [] x = inr (λ i. i.1)
 on_list (p ∷ ps) x = by (ℕ_discrete x p.0) (on_list ps x)
   where
@@ -159,17 +160,12 @@ module _ (P : ProgramTables) (n : ℕ) (ps : List (ℕ × ℕ)) (h : Heap) (s t 
   same =
       let both : AlikeResult (Through S T) u w = result_through S T u v w run_results (result_match T v w k.results (λ x y i. start_pair (BackAndResults h ps v w) t'.heap r x y (inr i))) in
       record {
-        heaps = matched_paired (OldAndResults h u w) J s'.heap r (joined h s.heap t.heap s'.heap t'.heap r R S T l.alike.heap l.moved mt old back new rest known closed)
-            (λ x z o. sum_left o
-            (λ n. subst (J x) n.1 (old_joined h s.heap t.heap s'.heap t'.heap r R S T l.alike.heap l.moved mt old back new rest known closed x n.0))
-            (λ i. inl (result_names (Through S T) u w x z both i)));
-        results = result_any u w both;
+        reached = record {
+          heaps = matched_paired (OldAndResults h u w) J s'.heap r (joined h s.heap t.heap s'.heap t'.heap r R S T l.alike.heap l.moved mt old back new rest known closed)
+              (λ x z o. sum_left o
+              (λ n. subst (J x) n.1 (old_joined h s.heap t.heap s'.heap t'.heap r R S T l.alike.heap l.moved mt old back new rest known closed x n.0))
+              (λ i. inl (result_names (Through S T) u w x z both i)));
+          results = result_more (Through S T) Any (λ x y r. tt) u w both;
+        };
         names = λ z n. sum_left (k.no_more z n) (λ o. inl o) (λ i. inr (names z i));
       }
-    where
-      result_any : (u w : Option Value) → AlikeResult (Through S T) u w → AlikeResult Any u w
-      result_any u w no_result = no_result
-      result_any u w (one_result like_int) = one_result like_int
-      result_any u w (one_result like_long) = one_result like_long
-      result_any u w (one_result like_null) = one_result like_null
-      result_any u w (one_result (like_ref r)) = one_result (like_ref tt)

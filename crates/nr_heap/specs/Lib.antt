@@ -17,3 +17,4 @@ pub mod Overs
 pub mod Same
 pub mod Asks
 pub mod LocalEntries
+pub mod Example

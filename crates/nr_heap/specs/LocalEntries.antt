@@ -8,14 +8,14 @@ use Rattle.nr_heap.specs.States.{Returned, State}
 use Rattle.nr_heap.specs.Alike.{AlikeResult, Any}
 use Rattle.nr_heap.specs.Pairs.{Listed, InResults, Holds, IsPair, Paired}
 use Rattle.nr_heap.specs.Locals.{RestorableRoot, Local}
-use Rattle.nr_heap.specs.Same.{Same}
+use Rattle.nr_heap.specs.Same.{SameReached}
 use Rattle.nr_heap.specs.Asks.{Answered, Faulted, Entry}
 
 -- each reference among the arguments is to an array or an object that a call restores
 abbrev pub AllRestorable : ProgramTables → Heap → List Value → Type 0
 AllRestorable P h args = (a : ℕ) → Holds args a → RestorableRoot P h args a
 
--- what was answered is the same as what a local run left, and it printed the same
+-- what was answered is, from the old names and the results on, the same as what a local run left, and it printed the same
 pub record IsLocal (P : ProgramTables) (e : Entry) : Type 0 where
   pub after : Heap
   pub value : Option Value
@@ -26,7 +26,7 @@ pub record IsLocal (P : ProgramTables) (e : Entry) : Type 0 where
   pub local : Local P e.before e.method e.args steps state
   pub result : Option Value
   pub returned : state.control ≡ Returned result
-  pub same : Same e.before state.heap result after value
+  pub same : SameReached e.before state.heap result after value
   pub out : state.printed ≡ printed
 
 -- each call is answered so, and each of its reference arguments is restored
@@ -47,6 +47,11 @@ pub record IsOwn (P : ProgramTables) (e : Entry) : Type 0 where
   pub local : Local P e.before e.method e.args steps state
   pub returned : state.control ≡ Returned result
   pub answer : e.answer ≡ Answered state.heap result state.printed
+
+-- each call is answered so, and each of its reference arguments is restored
+abbrev pub EachOwn : ProgramTables → List Entry → Type 0
+EachOwn P [] = Unit {0}
+EachOwn P (e ∷ es) = IsOwn P e × AllRestorable P e.before e.args × EachOwn P es
 
 -- a call that met a fault, or else was answered by a local run
 abbrev pub Fated : ProgramTables → Bool → Entry → Type 0

@@ -1,6 +1,6 @@
 -- What is reached, and pairs: names to which one path leads
 -- in two heaps (the project's own).
-use Rattle.std.specs.Prelude.{◌≡◌, ℕ, ◌⊎◌, ◌↔◌, List, [], ◌∷◌, Option, Some, None, slice_get}
+use Rattle.std.specs.Prelude.{◌≡◌, ◌≢◌, ℕ, ◌⊎◌, ◌↔◌, List, [], ◌∷◌, Option, Some, None, slice_get}
 use Rattle.std.specs.FinMap.{get}
 use Rattle.nr_heap.specs.declared.value.Value.{Value}
 use Rattle.nr_heap.specs.declared.value.Value.TheVariants.{Ref}
@@ -19,6 +19,10 @@ name_at vs i = on_some (slice_get vs i) None name_in
 -- the name in a slot of the object, if one is there
 abbrev pub slot_name : Heap → ℕ → ℕ → Option ℕ
 slot_name h a i = on_some (get h a) None (λ o. name_at o.slots i)
+
+-- each reference in the heap is to an object of it
+abbrev pub IsClosed : Heap → Type 0
+IsClosed h = (x i y : ℕ) → slot_name h x i ≡ Some y → get h y ≢ None
 
 -- where a path of slots leads from the name; the empty path leads to the name itself
 abbrev pub leads : Heap → List ℕ → ℕ → Option ℕ

@@ -1,5 +1,7 @@
 //! The laws of the model.
 
+mod closed;
+mod example;
 mod local;
 mod outcome;
 mod over;
@@ -9,11 +11,16 @@ mod remote;
 mod restore;
 mod script;
 
+pub use closed::heaps_stay_closed;
+pub use example::premises_can_be_met;
 pub use local::local_runs_without_copies;
-pub use outcome::{ended_outcomes_are_runs, outcomes_keep_pairs};
+pub use outcome::{ended_outcomes_are_runs, outcomes_keep_pairs, smaller_heaps_do_as_well};
 pub use over::runs_go_on_over_frames;
 pub use pair::runs_keep_pairs;
 pub use reach::runs_change_what_they_reach;
-pub use remote::{local_calls_end_alike, remote_runs_are_local, remote_runs_are_mirrored};
+pub use remote::{
+    local_calls_end_alike, own_calls_are_local, own_runs_are_local, remote_runs_are_local,
+    remote_runs_are_mirrored,
+};
 pub use restore::restores_are_local;
 pub use script::scripts_do_what_they_promise;

@@ -7,9 +7,10 @@ mod law;
 mod value;
 
 pub use law::{
-    ended_outcomes_are_runs, local_calls_end_alike, local_runs_without_copies, outcomes_keep_pairs,
+    ended_outcomes_are_runs, heaps_stay_closed, local_calls_end_alike, local_runs_without_copies,
+    outcomes_keep_pairs, own_calls_are_local, own_runs_are_local, premises_can_be_met,
     remote_runs_are_local, remote_runs_are_mirrored, restores_are_local,
     runs_change_what_they_reach, runs_go_on_over_frames, runs_keep_pairs,
-    scripts_do_what_they_promise,
+    scripts_do_what_they_promise, smaller_heaps_do_as_well,
 };
 pub use value::{Ref, Value};

@@ -1,6 +1,7 @@
 -- Small methods, and the first check of each that fails, by computing.
 use Rattle.std.proofs.Common.{◌≡◌, refl}
 use Rattle.std.specs.Prelude.{ℕ, pos, List, [], ◌∷◌, Option, Some, None, codes}
+use Rattle.std.specs.Option.{option_and_then}
 use Rattle.nr_optable.specs.Rows.{op, none, one, two}
 use Rattle.nr_optable.specs.declared.table.Row.{Row}
 use Rattle.nr_optable.specs.declared.table.Family.TheVariants.{F1, F2, F3, F4, F6, F7, F9, F12, F26, F28, F31, F32, F33, F36}
@@ -25,7 +26,8 @@ use Rattle.nr_linked.specs.declared.typing.fault.OpFault.TheVariants.{NeedsKind,
 use Rattle.nr_linked.specs.declared.typing.fault.Wanted.TheVariants as wanted
 use Rattle.nr_linked.specs.Kinds.{class_kind}
 use Rattle.nr_linked.specs.BuiltIns.{built_in_class}
-use Rattle.nr_linked.specs.BuiltInTables.{built_in_infos, built_in_methods, built_in_info, built_in_method}
+use Rattle.nr_linked.specs.BuiltInTables.{built_in_tables, built_in_infos, built_in_methods, built_in_info, built_in_method}
+use Rattle.nr_linked.specs.Programs.{method_at}
 use Rattle.nr_linked.specs.TypingFaults.{first_fault, Op, NoMap, MapMismatch, FallsOff, HandlerMismatch}
 
 -- class 0 has an int field in slot 0, its superclass is Object, which is class 1; method 1 is Object's initialiser
@@ -244,3 +246,13 @@ no_room = refl
 pub no_local : fault_of (only (op 27 F3 shapes.Plain none (one I))) ≡ Some (Op 0 (LocalRange 1))
 unfolding built_in_infos built_in_methods built_in_info built_in_method built_in_class
 no_local = refl
+
+-- ---- methods without code: an abstract one, and a built-in initialiser
+
+pub an_abstract_method : fault_of (record (only (op 0 F1 shapes.Plain none none)) { flags = 0x0401; body = None; resolved = [] }) ≡ None
+unfolding built_in_infos built_in_methods built_in_info built_in_method built_in_class
+an_abstract_method = refl
+
+pub a_built_in_initialiser : option_and_then (λ m. first_fault built_in_tables m) (method_at built_in_tables 0) ≡ None
+unfolding built_in_infos built_in_methods built_in_info built_in_method built_in_class built_in_tables
+a_built_in_initialiser = refl

@@ -82,16 +82,11 @@ is_thrown b = false
 
 -- ---- calls
 
--- the method k, selected for method i and a receiver of class c
-pub record Selected (P : ProgramTables) (i : MethodInfo) (c k : ℕ) : Type 0 where
-  pub method : MethodInfo
-  pub body : Body
-  pub is_method : method_at P k ≡ Some method
-  pub is_body : method.body ≡ Some body
-  pub above : IsTrue (is_above P c method.«class»)
-  pub instance : is_static method.flags ≡ false
-  pub params : i.params ≡ method.params
-  pub result : i.result ≡ method.result
+-- the method j, selected for method i and a receiver of class c
+pub record Selected (P : ProgramTables) (i : MethodInfo) (c : ℕ) (j : MethodInfo) : Type 0 where
+  pub above : IsTrue (is_above P c j.«class»)
+  pub params : i.params ≡ j.params
+  pub result : i.result ≡ j.result
 
 -- the call with this code, in a method of class own, of a method that the class c has (5.4.3.3, 5.4.3.4, and 6.5)
 pub record CallFacts (P : ProgramTables) (own code c : ℕ) (callee : MethodInfo) : Type 0 where
@@ -99,8 +94,8 @@ pub record CallFacts (P : ProgramTables) (own code c : ℕ) (callee : MethodInfo
   pub static : is_static callee.flags ≡ (code == 184)
   -- invokespecial (183) alone calls an initialiser, which the named class declares, and which gives nothing
   pub initialiser : IsTrue (is_initialiser callee) → (code ≡ 183) × (callee.«class» ≡ c) × (callee.result ≡ None)
-  -- a private method is of the named class or of one above it, and of no class to which any reference goes
-  pub private : IsTrue (is_private callee.flags) → IsTrue (is_above P c callee.«class») × (admits_any P callee.«class» ≡ false)
+  -- a private method is of the named class or of one above it
+  pub private : IsTrue (is_private callee.flags) → IsTrue (is_above P c callee.«class»)
   -- invokespecial of another method names the class that holds the code, or one above it
   pub ancestor : code ≡ 183 → is_initialiser callee ≡ false → IsTrue (is_above P own c)
 
@@ -123,6 +118,8 @@ pub record SiteFacts (P : ProgramTables) (own : ℕ) (s : Site) : Type 0 where
   pub kind : (k : Kind) → s.resolved ≡ resolved.Kind k → IsTrue (is_assignable P k k)
   -- `new` names a class that can have objects
   pub made : s.instr.row.family ≡ F33 → (k : Kind) → s.resolved ≡ resolved.Kind k → (c : ℕ) × (k ≡ class_kind c) × IsTrue (is_makeable P c)
+  -- anewarray (189) names elements of at most 254 dimensions: their array has at most 255
+  pub elements : s.instr.row.code ≡ 189 → (k : Kind) → s.resolved ≡ resolved.Kind k → k.dims ≤ 254
   -- multianewarray names an array of as many dimensions as it has counts, at least one
   pub dimensions : (i n : ℕ) (k : Kind) → s.instr.args ≡ args.Dims i n → s.resolved ≡ resolved.Kind k → (1 ≤ n) × (n ≤ k.dims)
   pub call : s.instr.row.family ≡ F32 → (n c : ℕ) (callee : MethodInfo) → s.resolved ≡ resolved.Method n c → method_at P n ≡ Some callee
@@ -150,11 +147,10 @@ pub record TypingFacts (P : ProgramTables) : Type 0 where
   -- a class stands above itself
   pub makeable : (c : ℕ) → IsTrue (is_makeable P c) → IsTrue (is_above P c c)
   pub own : (n : ℕ) (i : MethodInfo) (body : Body) → method_at P n ≡ Some i → i.body ≡ Some body → IsTrue (is_above P i.«class» i.«class»)
-  -- the method that is selected for one that is neither static nor private isn't static, has code, stands at or above the
-  -- receiver's class, and has the descriptor of the other
-  pub selects : (n c k : ℕ) (i : MethodInfo) → method_at P n ≡ Some i → is_static i.flags ≡ false → is_private i.flags ≡ false → selected P n c ≡ Some k → Selected P i c k
-  -- a private method that is selected is the method itself, with code
-  pub itself : (n c k : ℕ) (i : MethodInfo) → method_at P n ≡ Some i → IsTrue (is_private i.flags) → selected P n c ≡ Some k → (k ≡ n) × (body : Body) × (i.body ≡ Some body)
+  -- the method that is selected for one that is neither static nor private stands at or above the receiver's class, and has
+  -- the descriptor of the other
+  pub selects : (n c k : ℕ) (i j : MethodInfo) → method_at P n ≡ Some i → is_static i.flags ≡ false → is_private i.flags ≡ false → selected P n c ≡ Some k → method_at P k ≡ Some j
+      → Selected P i c j
   pub built_ins : (n : ℕ) (i : MethodInfo) → method_at P n ≡ Some i → i.body ≡ None → BuiltInFacts P i
   -- something was found for each instruction
   pub one_each : (n : ℕ) (i : MethodInfo) (body : Body) → method_at P n ≡ Some i → i.body ≡ Some body → length i.resolved ≡ length body.instrs

@@ -3,6 +3,7 @@
 use Rattle.std.specs.Prelude.{ℕ, suc, List, [], ◌∷◌, Bool, true, false, ◌&&◌, nat_le, Option, Some, None, if◌then◌else◌}
 use Rattle.std.specs.Option.{option_map_or}
 use Rattle.nr_prog.specs.declared.body.instruction.Instr.{Instr}
+use Rattle.nr_prog.specs.declared.body.whole.Body.{Body}
 use Rattle.nr_prog.specs.declared.member.Handler.{Handler}
 use Rattle.nr_linked.specs.declared.program.kind.Kind.{Kind}
 use Rattle.nr_linked.specs.declared.program.tables.MethodInfo.{MethodInfo}
@@ -98,9 +99,12 @@ first_among P m (i ∷ is) [] comes = Some (Unsuited i.at)
 first_among P m (i ∷ is) (r ∷ rs) comes =
     then_rest (check_site P m (record { instr = i; resolved = r; next = first_offset is }) comes) (λ f. first_among P m is rs f)
 
--- the first check of the method that fails; that of its places comes before the others
-abbrev pub first_fault : ProgramTables → MethodInfo → Option MethodFault
-first_fault P m =
-    if nat_le (places_of P m) m.max_locals then
-    option_map_or (λ body. first_among P m body.instrs m.resolved (Some (entry_frame P m))) m.body None
+-- of the method with this code: the check of its places comes before the others
+abbrev pub first_in : ProgramTables → MethodInfo → Body → Option MethodFault
+first_in P m body =
+    if nat_le (places_of P m) m.max_locals then first_among P m body.instrs m.resolved (Some (entry_frame P m))
     else Some (Op 0 (LocalRange m.max_locals))
+
+-- the first check of the method that fails; a method without code has no fault
+abbrev pub first_fault : ProgramTables → MethodInfo → Option MethodFault
+first_fault P m = option_map_or (first_in P m) m.body None

@@ -14,7 +14,7 @@ pub enum ServeFault {
     Thrown(Name),
     /// The run made as many steps as the budget has, and didn't end.
     BudgetSpent,
-    /// The run's frames would pass the bound of their value slots.
+    /// The run's frames would pass the bound of their number, 1,024, or that of their value slots.
     TooDeep,
     /// The run's heap would pass the bound of its cells.
     HeapFull,

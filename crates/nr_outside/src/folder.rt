@@ -1,5 +1,5 @@
 //! A folder of class files.
-ghost use Rattle.std.specs.Prelude.{◌≡◌, ◌⊎◌, ◌≤◌, List, ℕ, map, None, vec_len, IfOk, IsErrOf, IsPermutation, IsTrue};
+ghost use Rattle.std.specs.Prelude.{◌≡◌, ◌≢◌, ◌⊎◌, ◌≤◌, List, ℕ, map, None, vec_len, IfOk, IsErrOf, IsPermutation, IsTrue};
 ghost use Rattle.std.specs.String.{string_bytes};
 ghost use Rattle.nr_outside.specs.Causes.{HasCause, Rose};
 ghost use Rattle.nr_outside.specs.Folder.{ToldFile, class_paths, file_at, is_each_once, Reads};
@@ -19,8 +19,9 @@ pub use real::RealFolder;
 /// Where class files are listed and read.
 ///
 /// A folder may tell its files, which no call changes. It counts its faults: reads of a path that
-/// its told files lack, and all others. A count rises where a call fails, and stands still
-/// otherwise; one that is 2^64 - 1 stays there and counts as risen.
+/// its told files lack, and all others; one that tells nothing counts all among the others. A
+/// count rises where a call fails, and stands still otherwise; one that is 2^64 - 1 stays there and
+/// counts as risen.
 pub trait Folder {
     /// It tells its files.
     ghost Tells: { Type 0 };
@@ -54,7 +55,15 @@ pub trait Folder {
             ⊎ (Tells × (file_at dir.now path.now (files self.old) ≡ None)
             × Rose (lacks self.old) (lacks self.new)) }
         ensures still { IsErrOf result Fault.Failed ⊎ ((faults self.new ≡ faults self.old)
-            × (lacks self.new ≡ lacks self.old)) };
+            × (lacks self.new ≡ lacks self.old)) }
+
+        // Just one of the counts tells of a path, by whether the told files have it.
+        ensures there { (Tells → file_at dir.now path.now (files self.old) ≢ None)
+            → HasCause (faults self.old) (faults self.new) result
+            × (lacks self.new ≡ lacks self.old) }
+        ensures not_there { Tells → file_at dir.now path.now (files self.old) ≡ None
+            → HasCause (lacks self.old) (lacks self.new) result
+            × (faults self.new ≡ faults self.old) };
 
     /// A folder and a path stand together once.
     ghost each_once: { (f : Self) → Tells → IsTrue (is_each_once (files f)) };

@@ -1,5 +1,5 @@
 //! A wire: a way to peers, with at most one open connection.
-ghost use Rattle.std.specs.Prelude.{◌≡◌, ◌≢◌, ◌⊎◌, ◌++◌, ◌∷◌, [], ◌≤◌, ◌<◌, Bool, true, false, is_ok, List, ℕ, length, Ok, IfOk, OnOk};
+ghost use Rattle.std.specs.Prelude.{◌≡◌, ◌≢◌, ◌⊎◌, ◌++◌, ◌∷◌, [], ◌≤◌, ◌<◌, Bool, true, false, is_ok, List, ℕ, length, Ok, IfOk, OnOk, OnErr};
 ghost use Rattle.nr_outside.specs.Causes.{HasCause, Rose};
 ghost use Rattle.nr_outside.specs.Bytes.{AddsPart};
 ghost use Rattle.nr_outside.specs.Wire.{Connection, AddressesGrow, Gives, OpenIsTold, SendIsTold, ReceiveIsTold, IsAnswered};
@@ -70,7 +70,7 @@ pub trait Wire {
     fn is_open(&self) -> bool
         ensures { result ≡ opened self.now };
 
-    /// Listens at an address, for `accept`.
+    /// Listens at an address, for `accept`. It is no call on the open connection.
     fn listen(&mut self, addr: &str) -> Result<(), Fault>
         ensures opened { opened self.new ≡ opened self.old }
         ensures addresses { Tells
@@ -81,6 +81,9 @@ pub trait Wire {
         ensures to_come { Tells → to_come self.new ≡ to_come self.old }
         ensures order { TellsOrder → order self.new ≡ order self.old }
         ensures rule { (a b : List ℕ) → says self.new a b → says self.old a b }
+        ensures honest { Honest → opened self.old ≡ true
+            → IsAnswered (says self.old) (sent self.old) (given self.old) (to_come self.old)
+            → IsAnswered (says self.new) (sent self.new) (given self.new) (to_come self.new) }
         ensures cause { HasCause (open_faults self.old) (open_faults self.new) result }
         ensures stream_faults { stream_faults self.new ≡ stream_faults self.old }
         ensures ends { ends self.new ≡ ends self.old };
@@ -139,7 +142,7 @@ pub trait Wire {
         ensures ends { ends self.new ≡ ends self.old };
 
     /// Receives some bytes to the front of `into`, and says how many; 0 is the end of the
-    /// connection.
+    /// connection. Where it is refused, `into` is as before.
     fn receive(&mut self, into: &mut [u8]) -> Result<usize, Fault>
         requires open { opened self.old ≡ true }
         requires room { 0 < length into.old }
@@ -147,6 +150,7 @@ pub trait Wire {
         ensures bound { IfOk result (λ n. n ≤ length into.new) }
         ensures gives { Tells → Gives (given self.old) (to_come self.old) (given self.new)
             (to_come self.new) result into.new }
+        ensures into { Tells → OnErr result (into.new ≡ into.old) }
         ensures addresses { Tells → addresses self.new ≡ addresses self.old }
         ensures past { Tells → past self.new ≡ past self.old }
         ensures sent { Tells → sent self.new ≡ sent self.old }

@@ -208,10 +208,10 @@ module _ (P : ProgramTables) (facts : TypingFacts P) (own : MethodInfo) (F G : T
     zero_many h (suc n) p t b (suc i) q e = zero_many h n p t b i q e
 
     -- an array whose elements are of kind e
-    pub make_fits : (e : Kind) (n : ℕ) (k : Script) (L us : List Ty) → ((m : ℕ) → n ≤ m → Fits P h0 Q k L (Exact (array_of e) m ∷ us)) → Fits P h0 Q (make_array e n k) L us
-    make_fits e n k L us f =
+    pub make_fits : (e : Kind) (n : ℕ) (k : Script) (L us : List Ty) → T (is_assignable P e e) → ((m : ℕ) → n ≤ m → Fits P h0 Q k L (Exact (array_of e) m ∷ us)) → Fits P h0 Q (make_array e n k) L us
+    make_fits e n k L us self f =
         let a : array_of e ≡ record e { dims = suc e.dims } = array_of_is e in (
-          subst (λ a. Counts P a (length (replicate n (zero_of e)))) (sym a) tt,
+          subst (λ a. Counts P a (length (replicate n (zero_of e)))) (sym a) self,
           (λ h i p q. subst (λ a. Belongs P h (slot_ty P a i) (plain p)) (sym a) (zero_many h n (zero_of e) (kept_ty e) (zero_ok P h e) i p q)),
           f (length (replicate n (zero_of e))) (long_enough n (zero_of e)),
         )
@@ -232,7 +232,7 @@ module _ (P : ProgramTables) (facts : TypingFacts P) (own : MethodInfo) (F G : T
         self = subst (λ a. T (is_assignable P a a)) (sym (array_of_is e)) p
 
         made : (us : List VType) → leaves_operands own F (types.Class (array_of e) ∷ us) ≡ Leaves G → (n : ℕ) → Fits P h0 Q (make_array e n k) LT (operand_tys own us)
-        made us q n = make_fits e n k LT (operand_tys own us) (λ m l. go_top P facts own F G h0 Q k g (types.Class (array_of e)) us q (Exact (array_of e) m) (array_up (array_of e) m self))
+        made us q n = make_fits e n k LT (operand_tys own us) p (λ m l. go_top P facts own F G h0 Q k g (types.Class (array_of e)) us q (Exact (array_of e) m) (array_up (array_of e) m self))
 
         by_sign : (us : List VType) → leaves_operands own F (types.Class (array_of e) ∷ us) ≡ Leaves G → Fits P h0 Q (new_array P e k) LT (AnInt ∷ operand_tys own us)
         by_sign us q (pos n) = made us q n

@@ -21,7 +21,7 @@ use Rattle.nr_linked.specs.TypingFacts.{TypingFacts}
 use Rattle.nr_heap.specs.declared.value.Value.{Value}
 use Rattle.nr_heap.specs.declared.value.Value.TheVariants.{Int, Long, Null, Ref}
 use Rattle.nr_heap.specs.Heaps.{Obj, Heap, on_some}
-use Rattle.nr_typed.specs.Types.{Ty, Anything, Word, JustNull, Nullable, Object, Exact, kind_ty, ty_of, operand_tys, local_tys}
+use Rattle.nr_typed.specs.Types.{Ty, Anything, Word, JustNull, Nullable, Object, Just, Exact, kind_ty, ty_of, operand_tys, local_tys}
 use Rattle.nr_typed.specs.Belonging.{Belongs, Belong, one_place, Sharper, NoLong}
 use Rattle.nr_typed.proofs.Assigning.{and_both, by_kind, trans, class_up}
 
@@ -64,6 +64,26 @@ module _ (P : ProgramTables) (facts : TypingFacts P) where
   exact_null k c n p h (Int i) b = b
   exact_null k c n p h (Long i) b = b
 
+  of_just : (o : Option Obj) (k c : Kind) → T (is_assignable P k c) → IsSomeAnd o (λ o. o.kind ≡ k) → IsSomeAnd o (λ o. T (is_assignable P o.kind c))
+  of_just None k c p q = q
+  of_just (Some o) k c p q = subst (λ k. T (is_assignable P k c)) (sym q) p
+
+  pub just_null : (k c : Kind) → T (is_assignable P k c) → Sharper P (Just k) (Nullable c)
+  just_null k c p h (Ref a) b = of_just (get h a) k c p b
+  just_null k c p h Null b = absurd b
+  just_null k c p h (Int n) b = b
+  just_null k c p h (Long n) b = b
+
+  some_kind : (o : Option Obj) (k : Kind) (n : ℕ) → IsSomeAnd o (λ o. (o.kind ≡ k) × (length o.slots ≡ n)) → IsSomeAnd o (λ o. o.kind ≡ k)
+  some_kind None k n q = q
+  some_kind (Some o) k n q = q.0
+
+  pub exact_just : (k : Kind) (n : ℕ) → Sharper P (Exact k n) (Just k)
+  exact_just k n h (Ref a) b = some_kind (get h a) k n b
+  exact_just k n h Null b = b
+  exact_just k n h (Int i) b = b
+  exact_just k n h (Long i) b = b
+
   pub null_to : (k : Kind) → Sharper P JustNull (Nullable k)
   null_to k h Null q = tt
   null_to k h (Int n) q = absurd q
@@ -90,12 +110,18 @@ module _ (P : ProgramTables) (facts : TypingFacts P) where
     ref_word k (Int n) q = tt
     ref_word k (Long n) q = q
 
-    uninit_word : (o : Option ℕ) (v : Value) → Belongs P h (on_some o JustNull (λ c. Object (class_kind c))) v → NoLong v
+    just_word : (k : Kind) (v : Value) → Belongs P h (Just k) v → NoLong v
+    just_word k (Ref a) q = tt
+    just_word k Null q = tt
+    just_word k (Int n) q = tt
+    just_word k (Long n) q = q
+
+    uninit_word : (o : Option ℕ) (v : Value) → Belongs P h (on_some o JustNull (λ c. Just (class_kind c))) v → NoLong v
     uninit_word None Null q = tt
     uninit_word None (Ref a) q = tt
     uninit_word None (Int n) q = tt
     uninit_word None (Long n) q = q
-    uninit_word (Some c) v q = ref_word (class_kind c) v q
+    uninit_word (Some c) v q = just_word (class_kind c) v q
 
     pub operand_ok : (t u : VType) (v : Value) → T (is_operand_assignable P t u) → Belongs P h (ty_of Word m t) v → Belongs P h (ty_of Word m u) v
     operand_ok types.Top types.Top v p q = q
@@ -241,7 +267,7 @@ module _ (P : ProgramTables) (facts : TypingFacts P) where
     made_one n i c false same made p top v q = q
     made_one n i c true same made p top v q =
         let e : class_made_at m i ≡ Some c = subst (λ i. class_made_at m i ≡ Some c) (same tt) made in
-        object_null (class_kind c) (class_kind c) (class_up P facts c c p) h v (subst (λ o. Belongs P h (on_some o JustNull (λ c. Object (class_kind c))) v) e q)
+        just_null (class_kind c) (class_kind c) (class_up P facts c c p) h v (subst (λ o. Belongs P h (on_some o JustNull (λ c. Just (class_kind c))) v) e q)
 
     pub new_initialised : (n c : ℕ) → class_made_at m n ≡ Some c → T (is_above P c c) → Initialises (types.Uninit n) c
     unfolding Initialises

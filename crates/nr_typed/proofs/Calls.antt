@@ -34,10 +34,11 @@ use Rattle.nr_heap.specs.CallRules.{operands_of, out_rule, built_in_rule, call, 
 use Rattle.nr_typed.specs.Types.{argument_tys, Ty, Object, Exact, kind_tys, operand_tys, local_tys}
 use Rattle.nr_typed.specs.Belonging.{one_place, Sharper, AllSharper}
 use Rattle.nr_typed.specs.Fits.{Fits}
-use Rattle.nr_typed.specs.Standing.{SameDescriptor}
+use Rattle.nr_typed.specs.Standing.{SameNameAndDescriptor}
 use Rattle.nr_typed.proofs.Assigning.{above_zero, yes, holds, never, or_left, or_right, and_both, any_up, trans, class_up}
 use Rattle.nr_typed.proofs.Belongs.{exact_object, length_operands}
 use Rattle.nr_typed.proofs.Owed.{Owed, if_fits, throws}
+use Rattle.nr_typed.proofs.Selecting.{selected_coded, selected_itself, selected_called}
 use Rattle.nr_typed.proofs.Receivers.{drop_past, joined, length_more, all_before, arguments_at, arguments_ok, Receives, receiver, calls}
 
 pub and_then_of : {X Y : Type 0} (f : X → Option Y) (o : Option X) (y : Y) → option_and_then f o ≡ Some y → (x : X) × (o ≡ Some x) × (f x ≡ Some y)
@@ -142,7 +143,7 @@ module _ (P : ProgramTables) (facts : TypingFacts P) where
             let f : F.operands ≡ (a.args ++ (t ∷ [])) ++ us = a.split ∙ (ap (λ r. a.args ++ r) rest ∙ joined a.args us t) in
             subst₂ (λ n ts. drop n ts ≡ us) (sym n) (sym f) (drop_past (a.args ++ (t ∷ [])) us)
 
-        pub call_object : (n : ℕ) (method : MethodInfo) (body : Body) → method_at P n ≡ Some method → method.body ≡ Some body → SameDescriptor callee method → (e : Kind) (c : ℕ) → T (is_assignable P e (class_kind method.«class»))
+        pub call_object : (n : ℕ) (method : MethodInfo) (body : Body) → method_at P n ≡ Some method → method.body ≡ Some body → SameNameAndDescriptor callee method → (e : Kind) (c : ℕ) → T (is_assignable P e (class_kind method.«class»))
             → Fits P h0 Q (Call n) LT (operand_tys own a.args ++ (Exact e c ∷ operand_tys own us))
         call_object n method body is_method is_body same e c p =
             let args : List Ty = operand_tys own a.args ++ (Exact e c ∷ []) in
@@ -158,7 +159,7 @@ module _ (P : ProgramTables) (facts : TypingFacts P) where
             one_sharper s h vs (one_place a q) = one_place (s h _ a) q
 
             -- both take a receiver, since both take one operand more than parameters
-            not_static : (method : MethodInfo) → SameDescriptor callee method → is_static callee.flags ≡ false → is_static method.flags ≡ false
+            not_static : (method : MethodInfo) → SameNameAndDescriptor callee method → is_static callee.flags ≡ false → is_static method.flags ≡ false
             not_static method same e = by_flag (is_static method.flags) refl
               where
                 by_flag : (z : Bool) → is_static method.flags ≡ z → is_static method.flags ≡ false
@@ -168,8 +169,8 @@ module _ (P : ProgramTables) (facts : TypingFacts P) where
                     let k : length callee.params ≡ length method.params = ap (λ ps. length ps) same.params in
                     absurd (omega arith)
 
-        pub same_self : SameDescriptor callee callee
-        same_self = record { flags = refl; params = refl; result = refl }
+        pub same_self : SameNameAndDescriptor callee callee
+        same_self = record { name = refl; flags = refl; params = refl; result = refl }
 
         -- the selected method
         select_fits : (facts_of : CallFacts P own.«class» s.instr.row.code owner callee) (d : ℕ) (e : Kind) (c : ℕ) (n : ℕ) → selected P named d ≡ Some n
@@ -177,13 +178,20 @@ module _ (P : ProgramTables) (facts : TypingFacts P) where
             → Fits P h0 Q (Call n) LT (operand_tys own a.args ++ (Exact e c ∷ operand_tys own us))
         select_fits call d e c n sel below hidden = by_flag (is_private callee.flags) refl
           where
+            same_method : {x y : MethodInfo} {o : Option MethodInfo} → o ≡ Some x → o ≡ Some y → x ≡ y
+            same_method e f = cc
+
             by_flag : (z : Bool) → is_private callee.flags ≡ z → Fits P h0 Q (Call n) LT (operand_tys own a.args ++ (Exact e c ∷ operand_tys own us))
             by_flag true p =
-                let r = facts.itself named d n callee is_callee p sel in
-                call_object n callee r.1 (subst (λ n. method_at P n ≡ Some callee) (sym r.0) is_callee) r.2 same_self e c (hidden p)
+                let r = selected_coded P named d n sel in
+                let is : method_at P n ≡ Some callee = subst (λ n. method_at P n ≡ Some callee) (selected_itself P named d n callee is_callee sel p) is_callee in
+                let m : r.method ≡ callee = same_method r.is_method is in
+                call_object n callee r.body is (subst (λ (m : MethodInfo). m.body ≡ Some r.body) m r.is_body) same_self e c (hidden p)
             by_flag false p =
-                let r = facts.selects named d n callee is_callee instance p sel in
-                call_object n r.method r.body r.is_method r.is_body (record { flags = subst₂ (λ x ps. operands_of callee ≡ (if x then length ps else suc (length ps))) (instance ∙ sym r.instance) r.params refl; params = r.params; result = r.result }) e c (below r.method.«class» (yes (is_above P d r.method.«class») r.above))
+                let r = selected_coded P named d n sel in
+                let f = facts.selects named d n callee r.method is_callee instance p sel r.is_method in
+                let q = selected_called P named d n callee is_callee sel p r.method r.is_method in
+                call_object n r.method r.body r.is_method r.is_body (record { name = q.0; flags = subst₂ (λ x ps. operands_of callee ≡ (if x then length ps else suc (length ps))) (instance ∙ sym q.1) f.params refl; params = f.params; result = f.result }) e c (below r.method.«class» (yes (is_above P d r.method.«class») f.above))
 
         -- selection in the receiver's class
         selection_fits : (call : CallFacts P own.«class» s.instr.row.code owner callee) (e : Kind) (c : ℕ) → T (is_assignable P e (class_kind owner))
@@ -192,7 +200,7 @@ module _ (P : ProgramTables) (facts : TypingFacts P) where
             (throws P facts own F G h0 Q s owed built_ins.AbstractMethodError refl _ _) (λ n x.
             let r = and_then_of (selected P named) (class_of P e) n x in
             select_fits call r.0 e c n r.2 (λ y q. below_its_class e r.0 y r.1 q) (λ hid.
-            let f = call.private hid in trans P facts e (class_kind owner) (class_kind callee.«class») p (class_up P facts owner callee.«class» (yes (is_above P owner callee.«class») f.0))))
+            trans P facts e (class_kind owner) (class_kind callee.«class») p (class_up P facts owner callee.«class» (yes (is_above P owner callee.«class») (call.private hid)))))
 
         pub virtual_fits : CallFacts P own.«class» s.instr.row.code owner callee → Receives P facts own F G h0 Q t owner → Fits P h0 Q (invoke_virtual P named) LT (operand_tys own (a.args ++ (t ∷ us)))
         virtual_fits call r = subst (λ o. Fits P h0 Q (with_found o (λ i. on_receiver P i (λ kind. call_selected P (selected_for P named kind)))) LT (operand_tys own (a.args ++ (t ∷ us)))) (sym is_callee)
@@ -209,8 +217,7 @@ module _ (P : ProgramTables) (facts : TypingFacts P) where
         private_below : CallFacts P own.«class» s.instr.row.code owner callee → s.instr.row.code ≡ 183 → is_initialiser callee ≡ false → (e : Kind) → T (is_assignable P e (class_kind own.«class»)) → IsTrue (is_private callee.flags)
             → T (is_assignable P e (class_kind callee.«class»))
         private_below call code init e p hid =
-            let f = call.private hid in
-            let u = facts.above_above own.«class» owner callee.«class» (call.ancestor code init) f.0 in
+            let u = facts.above_above own.«class» owner callee.«class» (call.ancestor code init) (call.private hid) in
             trans P facts e (class_kind own.«class») (class_kind callee.«class») p (class_up P facts own.«class» callee.«class» (yes (is_above P own.«class» callee.«class») u))
 
         no_built_in : is_initialiser callee ≡ false → (k r : Script) → callee.body ≡ None → built_in_rule P callee k ≡ Some r → ⊥

@@ -1,5 +1,5 @@
 -- A state that stands in its heap also stands in another typed heap that has its names with their kinds.
-use Rattle.std.proofs.Common.{ℕ, zero, suc, List, [], ◌∷◌, sym, subst, T}
+use Rattle.std.proofs.Common.{◌≡◌, ℕ, zero, suc, List, [], ◌∷◌, sym, subst, ◌∙◌, T}
 use Rattle.std.specs.Prelude.{Option, Some, None, IsSomeAnd, drop}
 use Rattle.std.specs.FinMap.{get}
 use Rattle.nr_linked.specs.declared.program.kind.Kind.{Kind}
@@ -16,10 +16,11 @@ use Rattle.nr_heap.specs.declared.value.Value.TheVariants.{Int, Long, Null, Ref}
 use Rattle.nr_heap.specs.Heaps.{Heap, on_some}
 use Rattle.nr_heap.specs.CallRules.{operands_of}
 use Rattle.nr_heap.specs.States.{Frame, Control, Running, Returned, Thrown, State}
-use Rattle.nr_typed.specs.Types.{Ty, Anything, Word, AnInt, Small, ALong, JustNull, Nullable, Object, Exact, ty_of, operand_tys, local_tys}
+use Rattle.nr_typed.specs.Types.{Ty, Anything, Word, AnInt, Small, ALong, JustNull, Nullable, Object, Just, Exact, kind_ty, ty_of, operand_tys, local_tys}
 use Rattle.nr_typed.specs.Belonging.{Belongs, Belong, no_place, one_place}
 use Rattle.nr_typed.specs.TypedHeaps.{TypedHeap, KeepsNames}
-use Rattle.nr_typed.specs.Standing.{Holds, AllWait, throwable, ControlStands, StandsIn}
+use Rattle.nr_typed.specs.Standing.{Holds, AllWait, IsResult, throwable, ControlStands, StandsIn}
+use Rattle.nr_typed.proofs.Assigning.{by_kind}
 use Rattle.nr_typed.proofs.Typed.{some_of, at_some}
 
 -- the type says nothing of lengths
@@ -49,6 +50,11 @@ module _ (P : ProgramTables) (frames : ℕ → List TypeFrame) (h k : Heap) (n :
   value_on (Object c) Null l q = q
   value_on (Object c) (Int i) l q = q
   value_on (Object c) (Long i) l q = q
+  value_on (Just c) (Ref a) l q =
+      let o = some_of (get h a) (λ o. o.kind ≡ c) q in let p = n.at a o.0 o.1 in at_some (get k a) p.0 (λ o. o.kind ≡ c) p.1 (p.2 ∙ o.2)
+  value_on (Just c) Null l q = q
+  value_on (Just c) (Int i) l q = q
+  value_on (Just c) (Long i) l q = q
   value_on (Exact c i) v l q = absurd l
 
   lengthless : (top : Ty) → Lengthless top → (m : MethodInfo) (t : VType) → Lengthless (ty_of top m t)
@@ -59,7 +65,7 @@ module _ (P : ProgramTables) (frames : ℕ → List TypeFrame) (h k : Heap) (n :
   lengthless top l m types.UninitThis = tt
   lengthless top l m (types.Uninit i) = made (class_made_at m i)
     where
-      made : (o : Option ℕ) → Lengthless (on_some o JustNull (λ c. Object (class_kind c)))
+      made : (o : Option ℕ) → Lengthless (on_some o JustNull (λ c. Just (class_kind c)))
       made None = tt
       made (Some c) = tt
   lengthless top l m (types.Class c) = tt
@@ -86,9 +92,9 @@ module _ (P : ProgramTables) (frames : ℕ → List TypeFrame) (h k : Heap) (n :
     locals = locals_on x.method x.method.max_locals x.types.locals f.locals x.locals;
   }
 
-  all_wait : (r : ℕ) (fs : List Frame) → AllWait P frames h r fs → AllWait P frames k r fs
-  all_wait r [] q = tt
-  all_wait r (f ∷ fs) q = let w = q.0 in (
+  all_wait : (result : Option Kind) (r : ℕ) (fs : List Frame) → AllWait P frames result h r fs → AllWait P frames result k r fs
+  all_wait result r [] q = q
+  all_wait result r (f ∷ fs) q = let w = q.0 in (
     record {
       holds = held f w.holds;
       is_call = w.is_call;
@@ -102,14 +108,23 @@ module _ (P : ProgramTables) (frames : ℕ → List TypeFrame) (h k : Heap) (n :
       same = w.same;
       operands = operands_on w.holds.method (drop (operands_of w.target) w.holds.types.operands) f.operands w.operands;
     },
-    all_wait f.method fs q.1,
+    all_wait result f.method fs q.1,
   )
 
-  control_on : (c : Control) → ControlStands P frames h c → ControlStands P frames k c
-  control_on (Running []) q = q
-  control_on (Running (f ∷ fs)) q = let s = q.0 in (record { holds = held f s.holds; operands = operands_on s.holds.method s.holds.types.operands f.operands s.operands; room = s.room }, all_wait f.method fs q.1)
-  control_on (Returned v) q = tt
-  control_on (Thrown v) q = value_on (throwable P) v tt q
+  kind_lengthless : (c : Kind) → Lengthless (kind_ty c)
+  kind_lengthless c = by_kind (λ c. Lengthless (kind_ty c)) (λ c e. rw e tt) tt tt tt tt tt tt c
 
-pub stands_elsewhere : (P : ProgramTables) (frames : ℕ → List TypeFrame) (s : State) (k : Heap) → KeepsNames s.heap k → TypedHeap P k → StandsIn P frames s → StandsIn P frames (record s { heap = k })
-stands_elsewhere P frames s k n th st = record { heap = th; control = control_on P frames s.heap k n s.control st.control }
+  result_on : (result : Option Kind) (v : Option Value) → IsResult P h result v → IsResult P k result v
+  result_on None None q = q
+  result_on None (Some v) q = q
+  result_on (Some c) None q = q
+  result_on (Some c) (Some v) q = value_on (kind_ty c) v (kind_lengthless c) q
+
+  control_on : (result : Option Kind) (c : Control) → ControlStands P frames result h c → ControlStands P frames result k c
+  control_on result (Running []) q = q
+  control_on result (Running (f ∷ fs)) q = let s = q.0 in (record { holds = held f s.holds; operands = operands_on s.holds.method s.holds.types.operands f.operands s.operands; room = s.room }, all_wait result f.method fs q.1)
+  control_on result (Returned v) q = result_on result v q
+  control_on result (Thrown v) q = value_on (throwable P) v tt q
+
+pub stands_elsewhere : (P : ProgramTables) (frames : ℕ → List TypeFrame) (result : Option Kind) (s : State) (k : Heap) → KeepsNames s.heap k → TypedHeap P k → StandsIn P frames result s → StandsIn P frames result (record s { heap = k })
+stands_elsewhere P frames result s k n th st = record { heap = th; control = control_on P frames s.heap k n result s.control st.control }

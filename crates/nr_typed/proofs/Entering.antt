@@ -17,7 +17,7 @@ use Rattle.nr_heap.specs.declared.value.Value.{Value}
 use Rattle.nr_heap.specs.declared.value.Value.TheVariants.{Int, Long, Null, Ref}
 use Rattle.nr_heap.specs.Heaps.{Heap, on_some}
 use Rattle.nr_heap.specs.Steps.{spread, first_locals}
-use Rattle.nr_typed.specs.Types.{argument_tys, Ty, Anything, JustNull, Object, kind_ty, kind_tys, ty_of, local_tys}
+use Rattle.nr_typed.specs.Types.{argument_tys, Ty, Anything, JustNull, Object, Just, kind_ty, kind_tys, ty_of, local_tys}
 use Rattle.nr_typed.specs.Belonging.{Belongs, Belong, no_place, one_place}
 use Rattle.nr_typed.proofs.Assigning.{by_kind}
 use Rattle.nr_typed.proofs.Belongs.{kind_same}
@@ -74,7 +74,7 @@ module _ (P : ProgramTables) (facts : TypingFacts P) (m : MethodInfo) (h : Heap)
   nulls zero = no_place
   nulls (suc n) = one_place tt (nulls n)
 
-  uninit_long : (o : Option ℕ) (n : ℤ) → Belongs P h (on_some o JustNull (λ c. Object (class_kind c))) (Long n) → ⊥
+  uninit_long : (o : Option ℕ) (n : ℤ) → Belongs P h (on_some o JustNull (λ c. Just (class_kind c))) (Long n) → ⊥
   uninit_long None n q = q
   uninit_long (Some c) n q = q
 

@@ -1,6 +1,6 @@
 -- The example has the facts that typing takes of a linked program.
 use Rattle.std.proofs.Common.{◌≡◌, ℕ, zero, suc, ◌<◌, ◌⊎◌, inl, inr, List, [], ◌∷◌, length, refl, sym, subst, ◌∙◌, Bool, true, false, not, arith, T, nat_eq}
-use Rattle.std.specs.Prelude.{Option, Some, None, IsTrue, is_some, is_none, slice_get, ◌==◌, ◌&&◌, ◌||◌}
+use Rattle.std.specs.Prelude.{Option, Some, None, IsTrue, is_none, slice_get, ◌==◌, ◌&&◌, ◌||◌}
 use Rattle.std.specs.List.{list_any, list_all}
 use Rattle.std.specs.Option.{option_map_or, option_and_then}
 use Rattle.std.proofs.Math.Facts.{eqb_yes}
@@ -13,7 +13,7 @@ use Rattle.nr_linked.specs.BuiltIns.{built_in_class}
 use Rattle.nr_linked.specs.BuiltInTables.{built_in_infos, built_in_methods, built_in_info, built_in_method}
 use Rattle.nr_linked.specs.Programs.{class_at, method_at, super_of}
 use Rattle.nr_linked.specs.Slots.{slots_of}
-use Rattle.nr_linked.specs.Selection.{is_private, selected}
+use Rattle.nr_linked.specs.Selection.{selected}
 use Rattle.nr_linked.specs.Subtypes.{is_above, admits_any}
 use Rattle.nr_linked.specs.TypingFacts.{is_makeable}
 use Rattle.nr_typed.proofs.Assigning.{holds, and_both, or_cases}
@@ -86,10 +86,6 @@ slotted_check : T (up_to 24 (λ c. nat_eq (length (slots_of example c)) 0 || not
 unfolding up_to supers_of example built_in_infos built_in_info built_in_class
 slotted_check = tt
 
-pub private_check : T (up_to 28 (λ n. option_map_or (λ (i : MethodInfo). not (is_private i.flags)) (method_at example n) true))
-unfolding up_to supers_of example built_in_infos built_in_info built_in_class built_in_methods built_in_method
-private_check = tt
-
 pub count_check : T (up_to 28 (λ n. option_map_or (λ (i : MethodInfo). option_map_or (λ (b : Body). nat_eq (length i.resolved) (length b.instrs)) i.body true) (method_at example n) true))
 unfolding up_to supers_of example built_in_infos built_in_info built_in_class built_in_methods built_in_method
 count_check = tt
@@ -105,7 +101,7 @@ same_results (Some j) (Some k) = is_plain_result (Some j) && is_plain_result (So
 same_results a b = false
 
 unfoldable pub is_selected : ℕ → MethodInfo → MethodInfo → Bool
-is_selected c i j = is_some j.body && (is_above example c j.«class» && (not (is_static j.flags) && (nat_eq (length i.params) 0 && (nat_eq (length j.params) 0 && same_results i.result j.result))))
+is_selected c i j = is_above example c j.«class» && (nat_eq (length i.params) 0 && (nat_eq (length j.params) 0 && same_results i.result j.result))
 
 pub select_check : T (up_to 28 (λ n. option_map_or (λ (i : MethodInfo). is_static i.flags || up_to 24 (λ c. option_map_or (λ k. option_map_or (λ j. is_selected c i j) (method_at example k) false) (selected example n c) true)) (method_at example n) true))
 unfolding up_to supers_of example built_in_infos built_in_info built_in_class built_in_methods built_in_method is_selected same_results is_plain_result

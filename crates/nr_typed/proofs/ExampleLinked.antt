@@ -26,7 +26,7 @@ use Rattle.nr_typed.proofs.Assigning.{yes, holds}
 use Rattle.nr_typed.specs.Example.{example, initialiser, base_m, main, sub_m, at, aload_0, iconst_0, ireturn, return_, pop, dup, getfield, invokespecial, invokeinterface, new_}
 use Rattle.nr_typed.proofs.ExampleTyped.{none_some, some_same, AtEach, at_place, resolved_of}
 use Rattle.nr_typed.proofs.ExampleFacts.{above_above, any_up, super_above, makeable_above, inherited, declared, slotted}
-use Rattle.nr_typed.proofs.ExampleMethods.{thrown, never, selects, itself, own, one_each, built_in_facts}
+use Rattle.nr_typed.proofs.ExampleMethods.{thrown, never, selects, own, one_each, built_in_facts}
 
 -- ---- instructions
 
@@ -63,6 +63,7 @@ plain own offset row a found next r sh co pl nk nm = record {
   constant = co;
   kind = λ k e. absurd (nk k e);
   made = λ f k e. absurd (nk k e);
+  elements = λ c k e. absurd (nk k e);
   dimensions = λ i n k e x. absurd (not_dims a pl i n e);
   call = λ f n c callee e x. absurd (nm n c e);
 }
@@ -107,6 +108,7 @@ calls own offset row n c next callee is f r sh co = record {
   constant = co;
   kind = λ k e. absurd (method_kind n c k e);
   made = λ x k e. absurd (method_kind n c k e);
+  elements = λ x k e. absurd (method_kind n c k e);
   dimensions = λ i m k e x. absurd (method_kind n c k x);
   call = λ x m d callee' e y.
       let s : callee ≡ callee' = some_same (sym is ∙ (ap (method_at example) (method_number e) ∙ y)) in
@@ -121,6 +123,7 @@ makes own offset c next self can r = record {
   constant = refl;
   kind = λ k e. subst (λ k. IsTrue (is_assignable example k k)) (same_kind e) self;
   made = λ x k e. (c, sym (same_kind e), can);
+  elements = λ x k e. absurd (omega arith);
   dimensions = λ i n k e x. absurd (not_dims (Pool 1) tt i n e);
   call = λ x n d callee e y. absurd (kind_method (class_kind c) n d e);
 }
@@ -298,7 +301,6 @@ example_facts = record {
   makeable = λ c p. holds (is_above example c c) (makeable_above c (yes (is_makeable example c) p));
   own = own;
   selects = selects;
-  itself = itself;
   built_ins = built_in_facts;
   one_each = one_each;
   sites = sites;

@@ -1,6 +1,6 @@
 -- The example: its exceptions, its selection and its methods have the facts that typing takes of a linked program.
 use Rattle.std.proofs.Common.{◌≡◌, ℕ, zero, suc, ◌<◌, List, [], ◌∷◌, length, refl, sym, ap, subst, subst₂, ◌∙◌, Bool, true, false, not, arith, T, nat_eq}
-use Rattle.std.specs.Prelude.{Option, Some, None, IsTrue, is_some, is_none, find, ◌++◌, if◌then◌else◌, ◌&&◌, ◌||◌}
+use Rattle.std.specs.Prelude.{Option, Some, None, IsTrue, is_none, find, ◌++◌, if◌then◌else◌, ◌&&◌, ◌||◌}
 use Rattle.std.specs.List.{flat_map, range_with_len}
 use Rattle.std.specs.Option.{option_map_or, option_and_then}
 use Rattle.std.proofs.Math.Facts.{eqb_yes}
@@ -25,7 +25,7 @@ use Rattle.nr_linked.specs.TypingFacts.{is_makeable, is_thrown, Selected, BuiltI
 use Rattle.nr_typed.proofs.Assigning.{yes, holds, and_both}
 use Rattle.nr_typed.specs.Example.{int_kind, example}
 use Rattle.nr_typed.proofs.ExampleTyped.{none_some, AtEach, at_place}
-use Rattle.nr_typed.proofs.ExampleFacts.{up_to, each_below, own_check, private_check, count_check, select_check, is_plain_result, same_results, is_selected, method_below, class_below, at_option, there}
+use Rattle.nr_typed.proofs.ExampleFacts.{up_to, each_below, own_check, count_check, select_check, is_plain_result, same_results, is_selected, method_below, class_below, at_option}
 
 pub thrown : (b : BuiltIn) → IsTrue (is_thrown b) → IsTrue (is_above example (built_in example b) (built_in example built_ins.Throwable)) × IsTrue (is_makeable example (built_in example b))
 unfolding example built_in_infos built_in_info built_in_class
@@ -78,10 +78,6 @@ results (Some j) (Some k) p = let q = and_both (is_plain_result (Some j)) (is_pl
 results None (Some k) p = absurd p
 results (Some j) None p = absurd p
 
-is_there : {X : Type 0} (o : Option X) → T (is_some o) → (x : X) × (o ≡ Some x)
-is_there None p = absurd p
-is_there (Some x) p = (x, refl)
-
 is_false : (b : Bool) → T (not b) → b ≡ false
 is_false true p = absurd p
 is_false false p = refl
@@ -89,22 +85,14 @@ is_false false p = refl
 pub never : (b : Bool) → b ≡ false → T b → ⊥
 never b e p = subst T e p
 
-of_selected : (c k : ℕ) (i j : MethodInfo) → method_at example k ≡ Some j → T (is_selected c i j) → Selected example i c k
+of_selected : (c : ℕ) (i j : MethodInfo) → T (is_selected c i j) → Selected example i c j
 unfolding is_selected
-of_selected c k i j e p =
-    let a = and_both (is_some j.body) _ p in
-    let b = and_both (is_above example c j.«class») _ a.1 in
-    let d = and_both (not (is_static j.flags)) _ b.1 in
-    let f = and_both (nat_eq (length i.params) 0) _ d.1 in
+of_selected c i j p =
+    let b = and_both (is_above example c j.«class») _ p in
+    let f = and_both (nat_eq (length i.params) 0) _ b.1 in
     let g = and_both (nat_eq (length j.params) 0) _ f.1 in
-    let body = is_there j.body a.0 in
     record {
-      method = j;
-      body = body.0;
-      is_method = e;
-      is_body = body.1;
       above = holds (is_above example c j.«class») b.0;
-      instance = is_false (is_static j.flags) d.0;
       params = no_items i.params f.0 ∙ sym (no_items j.params g.0);
       result = results i.result j.result g.1;
     }
@@ -132,30 +120,24 @@ module _ (P : ProgramTables) (c : ℕ) (none : class_at P c ≡ None) where
       subst₂ (λ h ms. option_and_then (with_body P) (if h then Some n else find (λ n. option_map_or (is_selectable i.name i.desc) (method_at P n) false) ms) ≡ None) (sym hid) (sym (none_upward (length P.classes))) refl in
       subst (λ o. option_and_then (λ (i : MethodInfo). option_and_then (with_body P) (first_selected P n i c)) o ≡ None) (sym is_i) e
 
-pub selects : (n c k : ℕ) (i : MethodInfo) → method_at example n ≡ Some i → is_static i.flags ≡ false → is_private i.flags ≡ false → selected example n c ≡ Some k → Selected example i c k
-selects n c k i is_i instance hid e = by_class (class_at example c) refl
+pub selects : (n c k : ℕ) (i j : MethodInfo) → method_at example n ≡ Some i → is_static i.flags ≡ false → is_private i.flags ≡ false → selected example n c ≡ Some k → method_at example k ≡ Some j → Selected example i c j
+selects n c k i j is_i instance hid e is_j = by_class (class_at example c) refl
   where
-    below : c < 24 → Selected example i c k
+    below : c < 24 → Selected example i c j
     below l =
         let a = at_option (λ (i : MethodInfo). is_static i.flags || up_to 24 (λ c. option_map_or (λ k. option_map_or (λ j. is_selected c i j) (method_at example k) false) (selected example n c) true)) (method_at example n) i
         (each_below 28 (λ n. option_map_or (λ (i : MethodInfo). is_static i.flags || up_to 24 (λ c. option_map_or (λ k. option_map_or (λ j. is_selected c i j) (method_at example k) false) (selected example n c) true)) (method_at example n) true) select_check n (method_below n i is_i)) is_i in
         let b = second (is_static i.flags) _ instance a in
         let d = at_option (λ k. option_map_or (λ j. is_selected c i j) (method_at example k) false) (selected example n c) k (each_below 24 (λ c. option_map_or (λ k. option_map_or (λ j. is_selected c i j) (method_at example k) false) (selected example n c) true) b c l) e in
-        let j = there (λ j. is_selected c i j) (method_at example k) d in
-        of_selected c k i j.0 j.1 j.2
+        of_selected c i j (subst (λ o. T (option_map_or (λ j. is_selected c i j) o false)) is_j d)
       where
         second : (x y : Bool) → x ≡ false → T (x || y) → T y
         second true y e p = absurd (never true e tt)
         second false y e p = p
 
-    by_class : (o : Option ClassInfo) → class_at example c ≡ o → Selected example i c k
+    by_class : (o : Option ClassInfo) → class_at example c ≡ o → Selected example i c j
     by_class None x = absurd (none_some (sym (none_selected example c x n i is_i hid) ∙ e))
     by_class (Some x) y = below (class_below c x y)
-
-pub itself : (n c k : ℕ) (i : MethodInfo) → method_at example n ≡ Some i → IsTrue (is_private i.flags) → selected example n c ≡ Some k → (k ≡ n) × (body : Body) × (i.body ≡ Some body)
-itself n c k i is_i hid e =
-    let a = at_option (λ (i : MethodInfo). not (is_private i.flags)) (method_at example n) i (each_below 28 (λ n. option_map_or (λ (i : MethodInfo). not (is_private i.flags)) (method_at example n) true) private_check n (method_below n i is_i)) is_i in
-    absurd (never (is_private i.flags) (is_false (is_private i.flags) a) (yes (is_private i.flags) hid))
 
 -- ---- methods
 

@@ -27,7 +27,7 @@ use Rattle.nr_heap.specs.Heaps.{Heap, on_some}
 use Rattle.nr_heap.specs.Scripts.{Script, Drop, Within, Ending}
 use Rattle.nr_heap.specs.Throws.{with_found}
 use Rattle.nr_heap.specs.CallRules.{built_in_rule, call, call_selected, on_receiver, invoke_special}
-use Rattle.nr_typed.specs.Types.{Ty, JustNull, Object, Exact, operand_tys, local_tys}
+use Rattle.nr_typed.specs.Types.{Ty, JustNull, Just, Exact, operand_tys, local_tys}
 use Rattle.nr_typed.specs.Fits.{OnNullness, Fits}
 use Rattle.nr_typed.proofs.Assigning.{yes, holds, never, or_cases, class_up}
 use Rattle.nr_typed.proofs.Belongs.{this_initialised, new_initialised, initialised_operands, initialised_locals, Initialises}
@@ -72,7 +72,7 @@ module _ (P : ProgramTables) (facts : TypingFacts P) (own_number : ℕ) (own : M
 
     -- the object that the initialiser of class c is called on
     init_receives : (c : ℕ) (t : VType) → T (is_init_receiver P own c t) → Receives P facts own F G h0 Q t c
-    init_receives c types.UninitThis p X Y x y = y (class_kind own.«class») (class_up P facts own.«class» c (up (or_cases (c == own.«class») (option_map_or (λ s. s == c) (super_of P own.«class») false) p)))
+    init_receives c types.UninitThis p X Y x y = (y (class_kind own.«class») (class_up P facts own.«class» c (up (or_cases (c == own.«class») (option_map_or (λ s. s == c) (super_of P own.«class») false) p)))).0
       where
         of_super : (o : Option ℕ) → super_of P own.«class» ≡ o → T (option_map_or (λ s. s == c) o false) → T (is_above P own.«class» c)
         of_super None e p = absurd p
@@ -83,11 +83,11 @@ module _ (P : ProgramTables) (facts : TypingFacts P) (own_number : ℕ) (own : M
         up (inr q) = of_super (super_of P own.«class») refl q
     init_receives c (types.Uninit n) p X Y x y = made (class_made_at own n) refl p
       where
-        made : (o : Option ℕ) → class_made_at own n ≡ o → T (option_map_or (λ made. made == c) o false) → OnNullness (on_some o JustNull (λ c. Object (class_kind c))) X Y
+        made : (o : Option ℕ) → class_made_at own n ≡ o → T (option_map_or (λ made. made == c) o false) → OnNullness (on_some o JustNull (λ c. Just (class_kind c))) X Y
         made None e p = absurd p
         made (Some d) e p =
             let f : d ≡ c = eqb_yes p in
-            y (class_kind d) (subst (λ c. T (is_assignable P (class_kind d) (class_kind c))) f (class_up P facts d d (made_above n d e)))
+            (y (class_kind d) (subst (λ c. T (is_assignable P (class_kind d) (class_kind c))) f (class_up P facts d d (made_above n d e)))).1
     init_receives c types.Top p X Y x y = absurd p
     init_receives c types.Int p X Y x y = absurd p
     init_receives c types.Long p X Y x y = absurd p

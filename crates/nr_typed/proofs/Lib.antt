@@ -10,6 +10,7 @@ pub mod Elements
 pub mod Objects
 pub mod Arrays
 pub mod Nested
+pub mod Selecting
 pub mod Receivers
 pub mod Calls
 pub mod Initialisers

@@ -14,7 +14,7 @@ use Rattle.nr_linked.specs.TypingFacts.{TypingFacts}
 use Rattle.nr_heap.specs.Heaps.{Heap, on_some}
 use Rattle.nr_heap.specs.Scripts.{Script, Drop, Within, Ending}
 use Rattle.nr_heap.specs.ValueRules as scripts
-use Rattle.nr_typed.specs.Types.{Ty, Word, JustNull, Object, ty_of, operand_tys, local_tys}
+use Rattle.nr_typed.specs.Types.{Ty, Word, JustNull, Just, ty_of, operand_tys, local_tys}
 use Rattle.nr_typed.specs.Fits.{OnSize, Fits}
 use Rattle.nr_typed.proofs.Checks.{inv_single, inv_size}
 use Rattle.nr_typed.proofs.Owed.{Goes, go_same, over}
@@ -38,7 +38,7 @@ module _ (P : ProgramTables) (facts : TypingFacts P) (own : MethodInfo) (F G : T
   single_form types.UninitThis p X Y y = y
   single_form (types.Uninit n) p X Y y = made (class_made_at own n)
     where
-      made : (o : Option ℕ) → OnSize (on_some o JustNull (λ c. Object (class_kind c))) X Y
+      made : (o : Option ℕ) → OnSize (on_some o JustNull (λ c. Just (class_kind c))) X Y
       made None = y
       made (Some c) = y
   single_form (types.Class k) p X Y y = y

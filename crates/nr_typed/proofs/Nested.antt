@@ -68,10 +68,10 @@ module _ (P : ProgramTables) (facts : TypingFacts P) (own : MethodInfo) (F G : T
         → ((m : ℕ) → Fits P h0 Q k LT (Exact (kind_of d b) m ∷ us)) → Fits P h0 Q (nested (kind_of d b) ns k) LT us
     nested_fits d b [] l u p k us f = absurd (omega arith)
     nested_fits zero b (n ∷ ns) l u p k us f = absurd (omega arith)
-    nested_fits (suc d) b (n ∷ []) l u p k us f = make_fits P facts own F G h0 Q s owed (kind_of d b) n k LT us
+    nested_fits (suc d) b (n ∷ []) l u p k us f = make_fits P facts own F G h0 Q s owed (kind_of d b) n k LT us p
         (λ m o. subst (λ a. Fits P h0 Q k LT (Exact a m ∷ us)) (sym (array_of_is (kind_of d b))) (f m))
     nested_fits (suc zero) b (n ∷ m ∷ ns) l u p k us f = absurd (omega arith)
-    nested_fits (suc (suc d)) b (n ∷ m ∷ ns) l u p k us f = make_fits P facts own F G h0 Q s owed (kind_of (suc d) b) n (fill n (nested (kind_of (suc d) b) (m ∷ ns)) k) LT us
+    nested_fits (suc (suc d)) b (n ∷ m ∷ ns) l u p k us f = make_fits P facts own F G h0 Q s owed (kind_of (suc d) b) n (fill n (nested (kind_of (suc d) b) (m ∷ ns)) k) LT us p
         (λ c o. fill_fits (kind_of (suc d) b) (nested (kind_of (suc d) b) (m ∷ ns)) (array_kept d b p)
         (λ next us f. nested_fits (suc d) b (m ∷ ns) (omega arith) (omega arith) p next us f) n c o k us (subst (λ a. Fits P h0 Q k LT (Exact a c ∷ us)) (sym (array_of_is (kind_of (suc d) b))) (f c)))
 

@@ -25,7 +25,7 @@ use Rattle.nr_heap.specs.Heaps.{Heap, on_some}
 use Rattle.nr_heap.specs.Scripts.{Plain, plain, PlainInt, PlainLong, Script, GoTo, Return, ReturnTop, Push, PopInt, PopLong, Store, Drop, AskNull, AskSame, Within, Ending}
 use Rattle.nr_heap.specs.Throws.{typed}
 use Rattle.nr_heap.specs.ValueRules.{load, store, increment, on_ints, on_longs, not_zero, branch, target_at, target_of}
-use Rattle.nr_typed.specs.Types.{Ty, Anything, Word, AnInt, ALong, JustNull, Object, ty_of, operand_tys, local_tys}
+use Rattle.nr_typed.specs.Types.{Ty, Anything, Word, AnInt, ALong, JustNull, Object, Just, ty_of, operand_tys, local_tys}
 use Rattle.nr_typed.specs.Belonging.{Belongs}
 use Rattle.nr_typed.specs.Fits.{OnNullness, Fits}
 use Rattle.nr_typed.proofs.Assigning.{by_kind}
@@ -188,7 +188,7 @@ module _ (P : ProgramTables) (facts : TypingFacts P) (own : MethodInfo) (F G : T
       → Fit (on_ints (λ x y. branch t k (f x y)))
   tests_ints f t k b g e = pops_ints (λ y x. branch t k (f x y)) (λ ts. leaves_operands own F ts) e (λ us e y x. branches t k b g us e (f x y))
 
-  on_reference : (o : Option ℕ) → OnNullness (on_some o JustNull (λ c. Object (class_kind c))) (Unit {0}) (λ x. Unit {0})
+  on_reference : (o : Option ℕ) → OnNullness (on_some o JustNull (λ c. Just (class_kind c))) (Unit {0}) (λ x. Unit {0})
   on_reference None = tt
   on_reference (Some c) = tt
 
@@ -214,9 +214,9 @@ module _ (P : ProgramTables) (facts : TypingFacts P) (own : MethodInfo) (F G : T
   ask_null types.UninitThis p sc us f = f (Object (class_kind own.«class»)) false
   ask_null (types.Uninit n) p sc us f = made (class_made_at own n)
     where
-      made : (o : Option ℕ) → OnNullness (on_some o JustNull (λ c. Object (class_kind c))) (Fits P h0 Q (sc true) LT (JustNull ∷ us)) (λ u. Fits P h0 Q (sc false) LT (u ∷ us))
+      made : (o : Option ℕ) → OnNullness (on_some o JustNull (λ c. Just (class_kind c))) (Fits P h0 Q (sc true) LT (JustNull ∷ us)) (λ u. Fits P h0 Q (sc false) LT (u ∷ us))
       made None = f JustNull true
-      made (Some c) = f (Object (class_kind c)) false
+      made (Some c) = f (Just (class_kind c)) false
   ask_null types.Top p sc us f = absurd p
   ask_null types.Int p sc us f = absurd p
   ask_null types.Long p sc us f = absurd p

@@ -32,12 +32,12 @@ use Rattle.nr_heap.specs.Scripts.{PlainInt, Script, Throw, Push, PopInt, AskKind
 use Rattle.nr_heap.specs.Throws.{zeros, throw_new, not_null, typed, with_found, which}
 use Rattle.nr_heap.specs.ArrayRules.{narrowed}
 use Rattle.nr_heap.specs.ObjectRules.{has_fields_of, get_field, kept_as, put_field, new_of, throw_top, check_cast, instance_of, answer}
-use Rattle.nr_typed.specs.Types.{Ty, Word, AnInt, Small, ALong, JustNull, Nullable, Object, Exact, kind_ty, kept_base, kept_ty, ty_of, operand_tys, local_tys}
+use Rattle.nr_typed.specs.Types.{Ty, Word, AnInt, Small, ALong, JustNull, Nullable, Object, Just, Exact, kind_ty, kept_base, kept_ty, ty_of, operand_tys, local_tys}
 use Rattle.nr_typed.specs.Belonging.{Belongs, Belong, one_place, Sharper}
 use Rattle.nr_typed.specs.TypedHeaps.{Counts, slot_ty}
 use Rattle.nr_typed.specs.Fits.{OnNullness, Fits}
 use Rattle.nr_typed.proofs.Assigning.{trans, yes, and_both, by_kind, sub_assignable, class_up, below_class}
-use Rattle.nr_typed.proofs.Belongs.{object_null, exact_object, exact_null, null_to, kind_same, forgotten_ok}
+use Rattle.nr_typed.proofs.Belongs.{object_null, exact_object, exact_null, exact_just, null_to, kind_same, forgotten_ok}
 use Rattle.nr_typed.proofs.Checks.{no_rule, inv_need, inv_that}
 use Rattle.nr_typed.proofs.Owed.{Goes, Owed, go_on, go_same, go_top, over, if_fits, throws, null_throw, zeros_ok, length_zeros, ref_of}
 use Rattle.nr_typed.proofs.Elements.{slot_facts, narrowed_ok, bool_long, byte_long, char_long, short_long}
@@ -202,8 +202,8 @@ module _ (P : ProgramTables) (facts : TypingFacts P) (own : MethodInfo) (F G : T
         )
       where
         top : (h : Heap) (vs : List Value) → Belong P h (Exact (class_kind c) (length (zeros P c)) ∷ operand_tys own F.operands) vs → Belong P h (operand_tys own (types.Uninit at ∷ F.operands)) vs
-        top h vs (one_place {v = v} a as_) = one_place (subst (λ o. Belongs P h (on_some o JustNull (λ c. Object (class_kind c))) v) (sym made)
-            (exact_object P facts (class_kind c) (class_kind c) _ (class_up P facts c c (yes (is_above P c c) (facts.makeable c can))) h v a)) as_
+        top h vs (one_place {v = v} a as_) = one_place (subst (λ o. Belongs P h (on_some o JustNull (λ c. Just (class_kind c))) v) (sym made)
+            (exact_just P facts (class_kind c) _ h v a)) as_
 
     -- ---- class tests
 

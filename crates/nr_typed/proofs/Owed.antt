@@ -35,11 +35,11 @@ use Rattle.nr_heap.specs.Heaps.{Heap, on_some}
 use Rattle.nr_heap.specs.Scripts.{Plain, plain, Script, GoTo, Throw, AskNull, Within, Ending, Threw, Gave, Called, OnRef}
 use Rattle.nr_heap.specs.Throws.{zero_of, zeros, throw_new, typed, onward}
 use Rattle.nr_heap.specs.CallRules.{operands_of}
-use Rattle.nr_typed.specs.Types.{Ty, Anything, Word, AnInt, ALong, JustNull, Nullable, Object, argument_tys, kind_ty, kept_ty, ty_of, operand_tys, local_tys}
+use Rattle.nr_typed.specs.Types.{Ty, Anything, Word, AnInt, ALong, JustNull, Nullable, Object, Just, argument_tys, kind_ty, kept_ty, ty_of, operand_tys, local_tys}
 use Rattle.nr_typed.specs.Belonging.{Belongs, Belong, one_place, Sharper, AllSharper, InRange}
 use Rattle.nr_typed.specs.TypedHeaps.{slot_ty, TypedHeap, Stays}
 use Rattle.nr_typed.specs.Fits.{OnNullness, Fits}
-use Rattle.nr_typed.specs.Standing.{throwable, SameDescriptor}
+use Rattle.nr_typed.specs.Standing.{throwable, SameNameAndDescriptor}
 use Rattle.nr_typed.proofs.Assigning.{yes, by_kind, class_up}
 use Rattle.nr_typed.proofs.Belongs.{object_up, exact_object, null_to}
 use Rattle.nr_typed.proofs.Checks.{inv_leaves}
@@ -59,7 +59,7 @@ module _ (P : ProgramTables) (own : MethodInfo) (F G : TypeFrame) (h0 : Heap) (Q
     pub gave_none : own.result ≡ None → (w : Within) → TypedHeap P w.heap → Stays h0 w.heap → Q (Gave None) w
     pub gave : (k : Kind) → own.result ≡ Some k → (w : Within) (v : Value) → TypedHeap P w.heap → Stays h0 w.heap → Belongs P w.heap (kind_ty k) v → Q (Gave (Some v)) w
     pub called : s.instr.row.family ≡ F32 → (named owner n : ℕ) (target t : MethodInfo) (body : Body) → s.resolved ≡ resolved.Method named owner → method_at P named ≡ Some target
-        → method_at P n ≡ Some t → t.body ≡ Some body → SameDescriptor target t
+        → method_at P n ≡ Some t → t.body ≡ Some body → SameNameAndDescriptor target t
         → (w : Within) → TypedHeap P w.heap → Stays h0 w.heap → Belong P w.heap (locals_of F.locals) w.locals
         → Belong P w.heap (argument_tys t) (take (operands_of t) w.operands)
         → Belong P w.heap (operand_tys own (drop (operands_of target) F.operands)) (drop (operands_of t) w.operands) → operands_of t ≤ length w.operands → Q (Called n) w
@@ -158,10 +158,10 @@ module _ (P : ProgramTables) (facts : TypingFacts P) (own : MethodInfo) (F G : T
   weak_null k h (Int n) q = q
   weak_null k h (Long n) q = q
 
-  ask_uninit : (o : Option ℕ) (X : Type 0) (Y : Ty → Type 0) → ((x : Ty) → Sharper P x (on_some o JustNull (λ c. Object (class_kind c))) → Y x) → X ≡ Y JustNull
-      → OnNullness (on_some o JustNull (λ c. Object (class_kind c))) X Y
+  ask_uninit : (o : Option ℕ) (X : Type 0) (Y : Ty → Type 0) → ((x : Ty) → Sharper P x (on_some o JustNull (λ c. Just (class_kind c))) → Y x) → X ≡ Y JustNull
+      → OnNullness (on_some o JustNull (λ c. Just (class_kind c))) X Y
   ask_uninit None X Y f e = subst (λ X. X) (sym e) (f JustNull (λ h v q. q))
-  ask_uninit (Some c) X Y f e = f (Object (class_kind c)) (λ h v q. q)
+  ask_uninit (Some c) X Y f e = f (Just (class_kind c)) (λ h v q. q)
 
   -- a test for null that goes on in the same way
   pub ask_any : (t : VType) → T (is_letter letters.R t) → (K : Script) (L us : List Ty) → ((x : Ty) → Sharper P x (ty_of Word own t) → Fits P h0 Q K L (x ∷ us))

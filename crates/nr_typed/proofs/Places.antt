@@ -15,7 +15,7 @@ use Rattle.nr_heap.specs.Scripts.{OnTop, OnRef, OnReference, is_long, without}
 use Rattle.nr_heap.specs.Alike.{Like, like_int, like_long, like_null, like_ref, AllLike, no_more, one_more}
 use Rattle.nr_heap.proofs.Heaps.{like_more}
 use Rattle.nr_heap.proofs.Pairing.{long_like}
-use Rattle.nr_typed.specs.Types.{Ty, Anything, Word, AnInt, Small, ALong, JustNull, Nullable, Object, Exact, kept_ty}
+use Rattle.nr_typed.specs.Types.{Ty, Anything, Word, AnInt, Small, ALong, JustNull, Nullable, Object, Just, Exact, kept_ty}
 use Rattle.nr_typed.specs.Belonging.{Belongs, Belong, no_place, one_place, NoLong}
 use Rattle.nr_typed.specs.TypedHeaps.{Counts, slot_ty, Stays}
 use Rattle.nr_typed.specs.Fits.{OnTy, OnAnInt, OnALong, OnSize, OnNullness, OnKinds, OnExact, without_ty}
@@ -44,6 +44,7 @@ pub used_null : (t : Ty) (X : Type 0) (Y : Ty → Type 0) → OnNullness t X Y �
 used_null JustNull X Y x = tt
 used_null (Nullable k) X Y x = tt
 used_null (Object k) X Y x = tt
+used_null (Just k) X Y x = tt
 used_null (Exact k n) X Y x = tt
 used_null _ X Y x = absurd x
 
@@ -60,6 +61,7 @@ by_use _ = inl tt
 module _ (P : ProgramTables) where
   pub used_kinds : (t : Ty) (Y : Kind → ℕ → Type 0) → OnKinds P t Y → Usable t
   used_kinds (Object k) Y x = tt
+  used_kinds (Just k) Y x = tt
   used_kinds (Exact k n) Y x = tt
   used_kinds _ Y x = absurd x
 
@@ -73,6 +75,7 @@ module _ (P : ProgramTables) where
   both_admitted h JustNull p q u = q
   both_admitted h (Nullable k) p q u = q
   both_admitted h (Object k) p q u = p
+  both_admitted h (Just k) p q u = p
   both_admitted h (Exact k n) p q u = p
 
   -- ---- slots are usable
@@ -151,6 +154,10 @@ module _ (P : ProgramTables) where
   both_nullable C R h (Object c) u v X Y A B b x like_int p q f g = absurd p
   both_nullable C R h (Object c) u v X Y A B b x like_long p q f g = absurd p
   both_nullable C R h (Object c) u v X Y A B b x (like_ref r) p q f g = g (Object c) _ _ b x p q
+  both_nullable C R h (Just c) u v X Y A B b x like_null p q f g = absurd b
+  both_nullable C R h (Just c) u v X Y A B b x like_int p q f g = absurd p
+  both_nullable C R h (Just c) u v X Y A B b x like_long p q f g = absurd p
+  both_nullable C R h (Just c) u v X Y A B b x (like_ref r) p q f g = g (Just c) _ _ b x p q
   both_nullable C R h (Exact c n) u v X Y A B b x like_null p q f g = absurd b
   both_nullable C R h (Exact c n) u v X Y A B b x like_int p q f g = absurd p
   both_nullable C R h (Exact c n) u v X Y A B b x like_long p q f g = absurd p

@@ -16,7 +16,7 @@ use Rattle.nr_linked.specs.BuiltIns.{built_in}
 use Rattle.nr_linked.specs.Programs.{method_at}
 use Rattle.nr_linked.specs.Sites.{Site, site_at}
 use Rattle.nr_linked.specs.Subtypes.{is_assignable}
-use Rattle.nr_linked.specs.TypingFrames.{TypeFrame, of_kind, entry_frame}
+use Rattle.nr_linked.specs.TypingFrames.{TypeFrame, entry_frame}
 use Rattle.nr_linked.specs.TypingCalls as typing
 use Rattle.nr_linked.specs.TypingFacts.{TypingFacts, SiteFacts}
 use Rattle.nr_linked.specs.WellTyped.{falls_through, ComesTo, Onward, SiteTyped, WellTyped}
@@ -29,11 +29,11 @@ use Rattle.nr_heap.specs.CallRules.{operands_of}
 use Rattle.nr_heap.specs.Rules.{script}
 use Rattle.nr_heap.specs.States.{Frame, Control, Running, Returned, Thrown, State, IsEnd}
 use Rattle.nr_heap.specs.Steps.{unwound, next_offset, with_result, given, first_frame, script_at, within, after, StepBy, StepOf, Step, Run}
-use Rattle.nr_typed.specs.Types.{argument_tys, Word, kind_ty, operand_tys, local_tys}
+use Rattle.nr_typed.specs.Types.{argument_tys, Word, operand_tys, local_tys}
 use Rattle.nr_typed.specs.Belonging.{Belongs, Belong, no_place, one_place}
 use Rattle.nr_typed.specs.TypedHeaps.{TypedHeap, Stays}
 use Rattle.nr_typed.specs.Fits.{Fits}
-use Rattle.nr_typed.specs.Standing.{Stands, Waits, AllWait, AllStand, throwable, ControlStands, StandsIn}
+use Rattle.nr_typed.specs.Standing.{Stands, Waits, AllWait, AllStand, IsResult, throwable, ControlStands, StandsIn}
 use Rattle.nr_typed.proofs.Wp.{runs, ends_so}
 use Rattle.nr_typed.proofs.Typed.{some_of, stays_self, sound}
 use Rattle.nr_typed.proofs.Belongs.{kind_same}
@@ -43,28 +43,24 @@ use Rattle.nr_typed.proofs.Entering.{entry_ok}
 use Rattle.nr_typed.proofs.Returning.{call_returns}
 use Rattle.nr_typed.proofs.Steps.{some_both, frames, Method, typed, own_above, at_site, Arrival, comes_to, branch_to, method_of, holds_on, all_wait_on, goes_on, unwound_ok}
 
-module _ (P : ProgramTables) (facts : TypingFacts P) (wt : WellTyped P) where
+-- of machines whose first method has the result
+module _ (P : ProgramTables) (facts : TypingFacts P) (wt : WellTyped P) (result : Option Kind) where
   -- ---- returns
 
-  -- what a method may give back
-  abbrev pub Result : Heap → MethodInfo → Option Value → Type 0
-  Result h i None = i.result ≡ None
-  Result h i (Some v) = (k : Kind) × (i.result ≡ Some k) × Belongs P h (kind_ty k) v
+  -- another name of the same result
+  same_result : (h : Heap) (o p : Option Kind) → o ≡ p → (v : Option Value) → IsResult P h o v → IsResult P h p v
+  same_result h o p e v q = subst (λ o. IsResult P h o v) e q
 
-  result_of : (h : Heap) (i j : MethodInfo) → i.result ≡ j.result → (v : Option Value) → Result h j v → Result h i v
-  result_of h i j e None q = e ∙ q
-  result_of h i j e (Some v) q = (q.0, e ∙ q.1, q.2)
+  given_operands : (h : Heap) (own : MethodInfo) (o : Option Kind) (rest : List VType) (v : Option Value) → IsResult P h o v → (vs : List Value)
+      → Belong P h (operand_tys own rest) vs → Belong P h (operand_tys own (typing.with_result o rest)) (with_result v vs)
+  given_operands h own None rest None q vs b = b
+  given_operands h own (Some k) rest (Some v) q vs b = one_place (subst (λ t. Belongs P h t v) (sym (kind_same P facts Word own k)) q) b
+  given_operands h own None rest (Some v) q vs b = absurd q
+  given_operands h own (Some k) rest None q vs b = absurd q
 
-  given_operands : (h : Heap) (own target : MethodInfo) (rest : List VType) (us : List VType) → typing.with_result target.result rest ≡ us → (v : Option Value) → Result h target v → (vs : List Value)
-      → Belong P h (operand_tys own rest) vs → Belong P h (operand_tys own us) (with_result v vs)
-  given_operands h own target rest us e None q vs b = subst (λ us. Belong P h (operand_tys own us) vs) (ap (λ o. typing.with_result o rest) (sym q) ∙ e) b
-  given_operands h own target rest us e (Some v) q vs b =
-      let z : of_kind q.0 ∷ rest ≡ us = ap (λ o. typing.with_result o rest) (sym q.1) ∙ e in
-      subst (λ us. Belong P h (operand_tys own us) (v ∷ vs)) z (one_place (subst (λ t. Belongs P h t v) (sym (kind_same P facts Word own q.0)) q.2) b)
-
-  pub given_ok : (h : Heap) (r : ℕ) (i : MethodInfo) → method_at P r ≡ Some i → (v : Option Value) → Result h i v → (fs : List Frame) → AllWait P (frames P facts wt) h r fs
-      → (c : Control) × (given P v fs ≡ Some c) × ControlStands P (frames P facts wt) h c
-  given_ok h r i is_i v q [] w = (Returned v, refl, tt)
+  pub given_ok : (h : Heap) (r : ℕ) (i : MethodInfo) → method_at P r ≡ Some i → (v : Option Value) → IsResult P h i.result v → (fs : List Frame) → AllWait P (frames P facts wt) result h r fs
+      → (c : Control) × (given P v fs ≡ Some c) × ControlStands P (frames P facts wt) result h c
+  given_ok h r i is_i v q [] w = (Returned v, refl, same_result h i.result result (sym (ap (λ o. option_and_then (λ (i : MethodInfo). i.result) o) is_i) ∙ w) v q)
   given_ok h r i is_i v q (f ∷ fs) w =
       let x = w.0.holds in
       let m = method_of P facts wt h f x in
@@ -74,8 +70,9 @@ module _ (P : ProgramTables) (facts : TypingFacts P) (wt : WellTyped P) where
       let falls : falls_through x.site.instr.row.family ≡ true = subst (λ f. falls_through f ≡ true) (sym w.0.is_call) refl in
       let on = some_of x.site.next (ComesTo P x.method (wt.frames f.method) s.leaves) (subst (λ z. Onward P x.method (wt.frames f.method) z x.site.next s.leaves) falls s.onward) in
       let arrival : Arrival P facts wt f.method m s.leaves on.0 = comes_to P facts wt f.method m s.leaves on.0 on.2 in
-      let res : Result h w.0.target v = result_of h w.0.target i (w.0.same.result ∙ ap (λ (i : MethodInfo). i.result) (some_both w.0.is_above is_i)) v q in
-      let ops = given_operands h x.method w.0.target ret.rest s.leaves.operands ret.operands v res f.operands (ret.rest_on h f.operands w.0.operands) in
+      let res = same_result h i.result w.0.target.result (sym (w.0.same.result ∙ ap (λ (i : MethodInfo). i.result) (some_both w.0.is_above is_i))) v q in
+      let ops = subst (λ us. Belong P h (operand_tys x.method us) (with_result v f.operands)) ret.operands
+      (given_operands h x.method w.0.target.result ret.rest v res f.operands (ret.rest_on h f.operands w.0.operands)) in
       let next : next_offset P f.method f.offset ≡ Some on.0 =
       ap (λ o. option_and_then (λ (s : Site). s.next) (option_and_then (λ (i : MethodInfo). site_at i f.offset) o)) x.is_method ∙ (ap (λ o. option_and_then (λ (s : Site). s.next) o) x.is_site ∙ on.1) in (
         Running (record f { offset = on.0; operands = with_result v f.operands } ∷ fs),
@@ -97,7 +94,7 @@ module _ (P : ProgramTables) (facts : TypingFacts P) (wt : WellTyped P) where
   abbrev pub Gives : MethodInfo → Within → Ending → Type 0
   Gives own w (GoesTo at) = Unit {0}
   Gives own w (Threw a) = Belongs P w.heap (throwable P) (Ref a)
-  Gives own w (Gave v) = Result w.heap own v
+  Gives own w (Gave v) = IsResult P w.heap own.result v
   Gives own w (Called n) = (t : MethodInfo) × (method_at P n ≡ Some t) × (operands_of t ≤ length w.operands) × Belong P w.heap (argument_tys t) (take (operands_of t) w.operands)
 
   fits_in : (x y : ℕ) (c : Control) → x ≤ y → (if nat_le x y then Some c else None) ≡ Some c
@@ -114,9 +111,9 @@ module _ (P : ProgramTables) (facts : TypingFacts P) (wt : WellTyped P) where
   enters f fs n t is_t w l = subst (λ o. option_and_then (λ (i : MethodInfo). if nat_le (operands_of i) (length w.operands) then Some (called_control n i w f fs) else None) o ≡ Some (called_control n t w f fs)) (sym is_t)
       (fits_in (operands_of t) (length w.operands) _ l)
 
-  module _ (s : State) (th : TypedHeap P s.heap) (f : Frame) (fs : List Frame) (st : Stands P (frames P facts wt) s.heap f) (ws : AllWait P (frames P facts wt) s.heap f.method fs) where
+  module _ (s : State) (th : TypedHeap P s.heap) (f : Frame) (fs : List Frame) (st : Stands P (frames P facts wt) s.heap f) (ws : AllWait P (frames P facts wt) result s.heap f.method fs) where
     abbrev pub Owes : Ending → Within → Type 0
-    Owes e w = TypedHeap P w.heap × (c : Control) × (after P e w f fs ≡ Some c) × ControlStands P (frames P facts wt) w.heap c × Gives st.holds.method w e
+    Owes e w = TypedHeap P w.heap × (c : Control) × (after P e w f fs ≡ Some c) × ControlStands P (frames P facts wt) result w.heap c × Gives st.holds.method w e
 
     abbrev own : MethodInfo
     own = st.holds.method
@@ -135,7 +132,7 @@ module _ (P : ProgramTables) (facts : TypingFacts P) (wt : WellTyped P) where
       tw,
       Running (record f { offset = t; locals = w.locals; operands = w.operands } ∷ fs),
       refl,
-      (goes_on P facts wt w.heap f.method m G t arrival (record f { offset = t; locals = w.locals; operands = w.operands }) refl refl (a w.heap w.locals q) (b w.heap w.operands r) room, all_wait_on P facts wt s.heap w.heap sw f.method fs ws),
+      (goes_on P facts wt w.heap f.method m G t arrival (record f { offset = t; locals = w.locals; operands = w.operands }) refl refl (a w.heap w.locals q) (b w.heap w.operands r) room, all_wait_on P facts wt result s.heap w.heap sw f.method fs ws),
       tt,
     )
 
@@ -145,12 +142,12 @@ module _ (P : ProgramTables) (facts : TypingFacts P) (wt : WellTyped P) where
           tw,
           unwound P o.0.kind (Ref a) (f ∷ fs),
           ap (option_map (λ (o : Obj). unwound P o.kind (Ref a) (f ∷ fs))) o.1,
-          unwound_ok P facts wt w.heap a o.0 o.1 o.2 (f ∷ fs) (holds_on P facts wt s.heap w.heap sw f st.holds, all_wait_on P facts wt s.heap w.heap sw f.method fs ws),
+          unwound_ok P facts wt result w.heap a o.0 o.1 o.2 (f ∷ fs) (holds_on P facts wt s.heap w.heap sw f st.holds, all_wait_on P facts wt result s.heap w.heap sw f.method fs ws),
           q,
         )
 
-    gave_ok : (w : Within) (v : Option Value) → TypedHeap P w.heap → Stays s.heap w.heap → Result w.heap own v → Owes (Gave v) w
-    gave_ok w v tw sw q = let r = given_ok w.heap f.method own st.holds.is_method v q fs (all_wait_on P facts wt s.heap w.heap sw f.method fs ws) in (tw, r.0, r.1, r.2, q)
+    gave_ok : (w : Within) (v : Option Value) → TypedHeap P w.heap → Stays s.heap w.heap → IsResult P w.heap own.result v → Owes (Gave v) w
+    gave_ok w v tw sw q = let r = given_ok w.heap f.method own st.holds.is_method v q fs (all_wait_on P facts wt result s.heap w.heap sw f.method fs ws) in (tw, r.0, r.1, r.2, q)
 
     owed : Owed P own st.holds.types G s.heap Owes st.holds.site
     owed = record {
@@ -159,8 +156,8 @@ module _ (P : ProgramTables) (facts : TypingFacts P) (wt : WellTyped P) where
           subst (λ o. Goes P own st.holds.types G s.heap Owes (onward o)) (sym on.1) (go on.0 (comes_to P facts wt f.method m G on.0 on.2));
       branch = λ t c. go t (branch_to P facts wt f.method m G t (site_typed.branches t c));
       threw = threw_ok;
-      gave_none = λ e w tw sw. gave_ok w None tw sw e;
-      gave = λ k e w v tw sw q. gave_ok w (Some v) tw sw (k, e, q);
+      gave_none = λ e w tw sw. gave_ok w None tw sw (same_result w.heap None own.result (sym e) None tt);
+      gave = λ k e w v tw sw q. gave_ok w (Some v) tw sw (same_result w.heap (Some k) own.result (sym e) (Some v) q);
       called = λ fam named owner n target t body rs is_target is_t is_body same w tw sw q args rest l.
           let top : Frame = first_frame t n (take (operands_of t) w.operands) in
           let below : Frame = record f { locals = w.locals; operands = drop (operands_of t) w.operands } in
@@ -180,7 +177,7 @@ module _ (P : ProgramTables) (facts : TypingFacts P) (wt : WellTyped P) where
             tw,
             Running (top ∷ below ∷ fs),
             enters f fs n t is_t w l,
-            (first_stands w.heap n t body is_t is_body (take (operands_of t) w.operands) args, (waits, all_wait_on P facts wt s.heap w.heap sw f.method fs ws)),
+            (first_stands w.heap n t body is_t is_body (take (operands_of t) w.operands) args, (waits, all_wait_on P facts wt result s.heap w.heap sw f.method fs ws)),
             (t, is_t, l, args),
           );
     }
@@ -199,10 +196,10 @@ module _ (P : ProgramTables) (facts : TypingFacts P) (wt : WellTyped P) where
 
   -- ---- the laws
 
-  pub progress : (s : State) → StandsIn P (frames P facts wt) s → (IsEnd s.control → ⊥) → (t : State) × Step P s t
+  pub progress : (s : State) → StandsIn P (frames P facts wt) result s → (IsEnd s.control → ⊥) → (t : State) × Step P s t
   progress s st ends = by_control s.control refl st.control ends
     where
-      running : (f : Frame) (fs : List Frame) → AllStand P (frames P facts wt) s.heap (f ∷ fs) → (t : State) × StepOf P (Running (f ∷ fs)) s t
+      running : (f : Frame) (fs : List Frame) → AllStand P (frames P facts wt) result s.heap (f ∷ fs) → (t : State) × StepOf P (Running (f ∷ fs)) s t
       running f fs a =
           let p = step_owes s st.heap f fs a.0 a.1 in
           let r = runs _ (script P a.0.holds.method a.0.holds.site) _ p in
@@ -210,36 +207,41 @@ module _ (P : ProgramTables) (facts : TypingFacts P) (wt : WellTyped P) where
           let t : State = record { heap = r.0.1.heap; control = q.1; printed = s.printed ++ r.0.1.printed } in
           (t, subst (λ o. IsSomeAnd o (λ sc. StepBy P sc f fs s t)) (sym (does s st.heap f fs a.0 a.1)) (record { ending = r.0.0; left = r.0.1; runs = r.1; control = q.2; heap = refl; printed = refl }))
 
-      by_control : (c : Control) → s.control ≡ c → ControlStands P (frames P facts wt) s.heap s.control → (IsEnd s.control → ⊥) → (t : State) × StepOf P s.control s t
-      by_control (Running []) e a n = absurd (subst (ControlStands P (frames P facts wt) s.heap) e a)
-      by_control (Running (f ∷ fs)) e a n = subst (λ c. (t : State) × StepOf P c s t) (sym e) (running f fs (subst (ControlStands P (frames P facts wt) s.heap) e a))
+      by_control : (c : Control) → s.control ≡ c → ControlStands P (frames P facts wt) result s.heap s.control → (IsEnd s.control → ⊥) → (t : State) × StepOf P s.control s t
+      by_control (Running []) e a n = absurd (subst (ControlStands P (frames P facts wt) result s.heap) e a)
+      by_control (Running (f ∷ fs)) e a n = subst (λ c. (t : State) × StepOf P c s t) (sym e) (running f fs (subst (ControlStands P (frames P facts wt) result s.heap) e a))
       by_control (Returned v) e a n = absurd (n (subst IsEnd (sym e) tt))
       by_control (Thrown v) e a n = absurd (n (subst IsEnd (sym e) tt))
 
-  pub preservation : (s t : State) → StandsIn P (frames P facts wt) s → Step P s t → StandsIn P (frames P facts wt) t
+  pub preservation : (s t : State) → StandsIn P (frames P facts wt) result s → Step P s t → StandsIn P (frames P facts wt) result t
   preservation s t st step = by_control s.control refl step
     where
-      running : (f : Frame) (fs : List Frame) → AllStand P (frames P facts wt) s.heap (f ∷ fs) → StepOf P (Running (f ∷ fs)) s t → StandsIn P (frames P facts wt) t
+      running : (f : Frame) (fs : List Frame) → AllStand P (frames P facts wt) result s.heap (f ∷ fs) → StepOf P (Running (f ∷ fs)) s t → StandsIn P (frames P facts wt) result t
       running f fs a q =
           let p = step_owes s st.heap f fs a.0 a.1 in
           let z : StepBy P (script P a.0.holds.method a.0.holds.site) f fs s t = subst (λ o. IsSomeAnd o (λ sc. StepBy P sc f fs s t)) (does s st.heap f fs a.0 a.1) q in
           let g = ends_so _ z.ending z.left (script P a.0.holds.method a.0.holds.site) _ p z.runs in
           record {
             heap = subst (TypedHeap P) (sym z.heap) g.0;
-            control = subst (λ h. ControlStands P (frames P facts wt) h t.control) (sym z.heap) (subst (ControlStands P (frames P facts wt) z.left.heap) (some_both g.2 z.control) g.3);
+            control = subst (λ h. ControlStands P (frames P facts wt) result h t.control) (sym z.heap) (subst (ControlStands P (frames P facts wt) result z.left.heap) (some_both g.2 z.control) g.3);
           }
 
-      by_control : (c : Control) → s.control ≡ c → StepOf P c s t → StandsIn P (frames P facts wt) t
+      by_control : (c : Control) → s.control ≡ c → StepOf P c s t → StandsIn P (frames P facts wt) result t
       by_control (Running []) e q = absurd q
-      by_control (Running (f ∷ fs)) e q = running f fs (subst (ControlStands P (frames P facts wt) s.heap) e st.control) q
+      by_control (Running (f ∷ fs)) e q = running f fs (subst (ControlStands P (frames P facts wt) result s.heap) e st.control) q
       by_control (Returned v) e q = absurd q
       by_control (Thrown v) e q = absurd q
 
   -- the first state of a method, from arguments that fit, the last first
-  pub first_state_stands : (h : Heap) → TypedHeap P h → (n : ℕ) (i : MethodInfo) (body : Body) → method_at P n ≡ Some i → i.body ≡ Some body → (vs : List Value) → Belong P h (argument_tys i) vs → (printed : List ℕ)
-      → StandsIn P (frames P facts wt) (record { heap = h; control = Running (first_frame i n vs ∷ []); printed = printed })
-  first_state_stands h th n i body is_i is_body vs q printed = record { heap = th; control = (first_stands h n i body is_i is_body vs q, tt) }
+  pub first_state_stands : (h : Heap) → TypedHeap P h → (n : ℕ) (i : MethodInfo) (body : Body) → method_at P n ≡ Some i → i.result ≡ result → i.body ≡ Some body → (vs : List Value) → Belong P h (argument_tys i) vs → (printed : List ℕ)
+      → StandsIn P (frames P facts wt) result (record { heap = h; control = Running (first_frame i n vs ∷ []); printed = printed })
+  first_state_stands h th n i body is_i e is_body vs q printed =
+      record { heap = th; control = (first_stands h n i body is_i is_body vs q, ap (λ o. option_and_then (λ (i : MethodInfo). i.result) o) is_i ∙ e) }
 
-  pub runs_stand : (n : ℕ) (s t : State) → StandsIn P (frames P facts wt) s → Run P s n t → StandsIn P (frames P facts wt) t
-  runs_stand zero s t st r = subst (StandsIn P (frames P facts wt)) (sym r) st
+  pub runs_stand : (n : ℕ) (s t : State) → StandsIn P (frames P facts wt) result s → Run P s n t → StandsIn P (frames P facts wt) result t
+  runs_stand zero s t st r = subst (StandsIn P (frames P facts wt) result) (sym r) st
   runs_stand (suc n) s t st r = runs_stand n r.0 t (preservation s r.0 st r.1) r.2
+
+  -- what a run gives that ends by a return
+  pub runs_give : (n : ℕ) (s t : State) (v : Option Value) → StandsIn P (frames P facts wt) result s → Run P s n t → t.control ≡ Returned v → IsResult P t.heap result v
+  runs_give n s t v st r e = subst (ControlStands P (frames P facts wt) result t.heap) e (runs_stand n s t st r).control

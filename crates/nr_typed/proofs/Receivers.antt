@@ -22,11 +22,11 @@ use Rattle.nr_heap.specs.Heaps.{Heap}
 use Rattle.nr_heap.specs.Scripts.{Script, Call, AskNull, AskKind, Within, Ending}
 use Rattle.nr_heap.specs.Throws.{throw_new}
 use Rattle.nr_heap.specs.CallRules.{operands_of, on_receiver}
-use Rattle.nr_typed.specs.Types.{argument_tys, Ty, Word, JustNull, Nullable, Object, Exact, kind_tys, ty_of, operand_tys, local_tys}
+use Rattle.nr_typed.specs.Types.{argument_tys, Ty, Word, JustNull, Nullable, Object, Just, Exact, kind_tys, ty_of, operand_tys, local_tys}
 use Rattle.nr_typed.specs.Belonging.{Belongs, Belong, no_place, one_place, AllSharper}
 use Rattle.nr_typed.specs.TypedHeaps.{Counts}
 use Rattle.nr_typed.specs.Fits.{OnNullness, Fits}
-use Rattle.nr_typed.specs.Standing.{SameDescriptor}
+use Rattle.nr_typed.specs.Standing.{SameNameAndDescriptor}
 use Rattle.nr_typed.proofs.Assigning.{and_both, trans}
 use Rattle.nr_typed.proofs.Belongs.{operand_ok, kind_same, length_operands}
 use Rattle.nr_typed.proofs.Checks.{refused, inv_need}
@@ -107,6 +107,7 @@ module _ (P : ProgramTables) (facts : TypingFacts P) (own : MethodInfo) where
   on_null_map JustNull X A Y B p f g = f p
   on_null_map (Nullable k) X A Y B p f g = (f p.0, g _ p.1)
   on_null_map (Object k) X A Y B p f g = g _ p
+  on_null_map (Just k) X A Y B p f g = g _ p
   on_null_map (Exact k n) X A Y B p f g = g _ p
   on_null_map _ X A Y B p f g = absurd p
 
@@ -122,12 +123,15 @@ module _ (P : ProgramTables) (facts : TypingFacts P) (own : MethodInfo) where
       kind_mid : (k : Kind → ℕ → Script) (c : Kind) → ((a : Kind) (n : ℕ) → T (is_assignable P a c) → Counts P a n → Fits P h0 Q (k a n) LT (xs ++ (Exact a n ∷ us))) → Fits P h0 Q (AskKind d k) LT (xs ++ (Object c ∷ us))
       kind_mid k c p = rw (e, get_mid xs us (Object c)) (λ a n q z. subst (λ ts. Fits P h0 Q (k a n) LT ts) (sym (set_mid xs us (Object c) (Exact a n))) (p a n q z))
 
-    -- what a receiver is for a class: null, or objects of a kind below it
+      kind_just : (k : Kind → ℕ → Script) (c : Kind) → ((n : ℕ) → Counts P c n → Fits P h0 Q (k c n) LT (xs ++ (Exact c n ∷ us))) → Fits P h0 Q (AskKind d k) LT (xs ++ (Just c ∷ us))
+      kind_just k c p = rw (e, get_mid xs us (Just c)) (λ n z. subst (λ ts. Fits P h0 Q (k c n) LT ts) (sym (set_mid xs us (Just c) (Exact c n))) (p n z))
+
+    -- what a receiver is for a class: null, objects of a kind below it, or those of just such a kind
     abbrev pub Receives : VType → ℕ → Type 1
-    Receives t c = (X : Type 0) (Y : Ty → Type 0) → X → ((k : Kind) → T (is_assignable P k (class_kind c)) → Y (Object k)) → OnNullness (ty_of Word own t) X Y
+    Receives t c = (X : Type 0) (Y : Ty → Type 0) → X → ((k : Kind) → T (is_assignable P k (class_kind c)) → Y (Object k) × Y (Just k)) → OnNullness (ty_of Word own t) X Y
 
     pub wanted_receives : (t : VType) (c : ℕ) → T (is_operand_assignable P t (types.Class (class_kind c))) → Receives t c
-    wanted_receives t c p X Y x y = on_wanted P facts own F G h0 Q (class_kind c) t X Y p x y
+    wanted_receives t c p X Y x y = on_wanted P facts own F G h0 Q (class_kind c) t X Y p x (λ k q. (y k q).0)
 
     module _ (s : Site) (owed : Owed P own F G h0 Q s) where
       pub receiver : (i : MethodInfo) (k : Kind → Script) (xs us : List VType) (t : VType) (c : ℕ) → length xs ≡ length i.params → Receives t c
@@ -137,11 +141,14 @@ module _ (P : ProgramTables) (facts : TypingFacts P) (own : MethodInfo) where
           subst (λ ts. Fits P h0 Q (on_receiver P i k) LT ts) (sym (operands_append own xs (t ∷ us)))
           (null_mid (operand_tys own xs) (operand_tys own us) (length i.params) d (λ null. if null then throw_new P built_ins.NullPointerException else AskKind (length i.params) (λ kind n. k kind)) (ty_of Word own t)
           (r _ (λ u. Fits P h0 Q (AskKind (length i.params) (λ kind n. k kind)) LT (operand_tys own xs ++ (u ∷ operand_tys own us))) (null_throw P facts own F G h0 Q s owed _ _)
-          (λ j p. kind_mid (operand_tys own xs) (operand_tys own us) (length i.params) d (λ kind n. k kind) j (λ e n q z. f e n (trans P facts e j (class_kind c) q p)))))
+          (λ j p. (
+            kind_mid (operand_tys own xs) (operand_tys own us) (length i.params) d (λ kind n. k kind) j (λ e n q z. f e n (trans P facts e j (class_kind c) q p)),
+            kind_just (operand_tys own xs) (operand_tys own us) (length i.params) d (λ kind n. k kind) j (λ n z. f j n p),
+          ))))
 
       -- a call of t, the method n, where `target` was named
       pub calls : s.instr.row.family ≡ F32 → (named owner n : ℕ) (target t : MethodInfo) (body : Body) → s.resolved ≡ resolved.Method named owner → method_at P named ≡ Some target
-          → method_at P n ≡ Some t → t.body ≡ Some body → SameDescriptor target t → (args : List Ty) (us : List VType) → length args ≡ operands_of t → AllSharper P args (argument_tys t)
+          → method_at P n ≡ Some t → t.body ≡ Some body → SameNameAndDescriptor target t → (args : List Ty) (us : List VType) → length args ≡ operands_of t → AllSharper P args (argument_tys t)
           → drop (operands_of target) F.operands ≡ us → Fits P h0 Q (Call n) LT (args ++ operand_tys own us)
       calls fam named owner n target t body rs is_target is_t is_body same args us l sharp rest w th st a q =
           let r = parted P w.heap args (operand_tys own us) w.operands q in

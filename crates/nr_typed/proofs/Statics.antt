@@ -149,7 +149,7 @@ module _ (P : ProgramTables) (facts : TypingFacts P) (own : MethodInfo) (F G : T
             (subst (AllSharper P args) (sym (append-nil (kind_tys (reverse callee.params)))) (arguments_ok P facts own a.args (reverse callee.params) a.fit)) in
             let rest : drop (operands_of callee) F.operands ≡ a.rest = subst₂ (λ n ts. drop n ts ≡ a.rest) (a.count ∙ sym count) (sym a.split) (drop_past a.args a.rest) in
             subst (Fits P h0 Q (Call named) LT) (sym (operands_append own a.args a.rest))
-            (calls P facts own F G h0 Q s owed fam named owner named callee callee body rs is_callee is_callee is_body (record { flags = refl; params = refl; result = refl }) args a.rest len sharp rest)
+            (calls P facts own F G h0 Q s owed fam named owner named callee callee body rs is_callee is_callee is_body (record { name = refl; flags = refl; params = refl; result = refl }) args a.rest len sharp rest)
 
         built_in_code : (r : Script) → callee.body ≡ None → built_in_rule P callee k ≡ Some r → Fits P h0 Q r LT (operand_tys own (a.args ++ a.rest))
         built_in_code r none x = elim (rule_cases P facts own F G h0 Q s owed fam named owner rs callee is_callee a k r x) [

@@ -165,9 +165,9 @@ module _ (P : ProgramTables) (facts : TypingFacts P) where
       operands = all_on P h k s _ _ w.operands;
     }
 
-    pub all_wait_on : (h k : Heap) → Stays h k → (r : ℕ) (fs : List Frame) → AllWait P frames h r fs → AllWait P frames k r fs
-    all_wait_on h k s r [] q = tt
-    all_wait_on h k s r (f ∷ fs) q = (waits_on h k s r f q.0, all_wait_on h k s f.method fs q.1)
+    pub all_wait_on : (result : Option Kind) (h k : Heap) → Stays h k → (r : ℕ) (fs : List Frame) → AllWait P frames result h r fs → AllWait P frames result k r fs
+    all_wait_on result h k s r [] q = q
+    all_wait_on result h k s r (f ∷ fs) q = (waits_on h k s r f q.0, all_wait_on result h k s f.method fs q.1)
 
     -- a frame that goes on at an offset
     pub goes_on : (h : Heap) (n : ℕ) (m : Method n) (g : TypeFrame) (at : ℕ) → Arrival n m g at → (f : Frame) → f.method ≡ n → f.offset ≡ at
@@ -207,17 +207,17 @@ module _ (P : ProgramTables) (facts : TypingFacts P) where
     caught_size None = refl
     caught_size (Some c) = refl
 
-    abbrev pub Unwinds : Heap → List Frame → Type 0
-    Unwinds h [] = Unit {0}
-    Unwinds h (f ∷ fs) = Holds P frames h f × AllWait P frames h f.method fs
+    abbrev pub Unwinds : Option Kind → Heap → List Frame → Type 0
+    Unwinds result h [] = Unit {0}
+    Unwinds result h (f ∷ fs) = Holds P frames h f × AllWait P frames result h f.method fs
 
-    pub waiting_unwinds : (h : Heap) (r : ℕ) (fs : List Frame) → AllWait P frames h r fs → Unwinds h fs
-    waiting_unwinds h r [] w = tt
-    waiting_unwinds h r (f ∷ fs) w = (w.0.holds, w.1)
+    pub waiting_unwinds : (result : Option Kind) (h : Heap) (r : ℕ) (fs : List Frame) → AllWait P frames result h r fs → Unwinds result h fs
+    waiting_unwinds result h r [] w = tt
+    waiting_unwinds result h r (f ∷ fs) w = (w.0.holds, w.1)
 
-    module _ (h : Heap) (a : ℕ) (o : Obj) (e : get h a ≡ Some o) (thrown : T (is_assignable P o.kind (class_kind (built_in P built_ins.Throwable)))) where
-      handled : (f : Frame) (fs : List Frame) (x : Holds P frames h f) → AllWait P frames h f.method fs → (t : ℕ) → Caught o.kind f.offset (catchers x.method) t
-          → ControlStands P frames h (Running (record f { offset = t; operands = Ref a ∷ [] } ∷ fs))
+    module _ (result : Option Kind) (h : Heap) (a : ℕ) (o : Obj) (e : get h a ≡ Some o) (thrown : T (is_assignable P o.kind (class_kind (built_in P built_ins.Throwable)))) where
+      handled : (f : Frame) (fs : List Frame) (x : Holds P frames h f) → AllWait P frames result h f.method fs → (t : ℕ) → Caught o.kind f.offset (catchers x.method) t
+          → ControlStands P frames result h (Running (record f { offset = t; operands = Ref a ∷ [] } ∷ fs))
       handled f fs x w t c =
           let m = method_of h f x in
           let s = (typed f.method m).sites f.offset x.site x.types x.is_site x.is_types in
@@ -230,8 +230,8 @@ module _ (P : ProgramTables) (facts : TypingFacts P) where
             w,
           )
 
-      here_or : (f : Frame) (fs : List Frame) (x : Holds P frames h f) → AllWait P frames h f.method fs → ControlStands P frames h (unwound P o.kind (Ref a) fs) → (t : Option ℕ)
-          → handler_at P f.method f.offset o.kind ≡ t → ControlStands P frames h (on_some t (unwound P o.kind (Ref a) fs) (λ t. Running (record f { offset = t; operands = Ref a ∷ [] } ∷ fs)))
+      here_or : (f : Frame) (fs : List Frame) (x : Holds P frames h f) → AllWait P frames result h f.method fs → ControlStands P frames result h (unwound P o.kind (Ref a) fs) → (t : Option ℕ)
+          → handler_at P f.method f.offset o.kind ≡ t → ControlStands P frames result h (on_some t (unwound P o.kind (Ref a) fs) (λ t. Running (record f { offset = t; operands = Ref a ∷ [] } ∷ fs)))
       here_or f fs x w rest None z = rest
       here_or f fs x w rest (Some t) z =
           let z : option_and_then (λ (i : MethodInfo). option_and_then (λ (body : Body). first_handler P f.offset o.kind body.handlers i.catches) i.body) (Some x.method) ≡ Some t =
@@ -240,6 +240,6 @@ module _ (P : ProgramTables) (facts : TypingFacts P) where
           let c : Caught o.kind f.offset (catchers x.method) t = subst (λ b. Caught o.kind f.offset (option_map_or (λ (body : Body). with_catches body.handlers x.method.catches) b []) t) (sym x.is_body) (caught o.kind f.offset x.body.handlers x.method.catches t z) in
           handled f fs x w t c
 
-      pub unwound_ok : (fs : List Frame) → Unwinds h fs → ControlStands P frames h (unwound P o.kind (Ref a) fs)
+      pub unwound_ok : (fs : List Frame) → Unwinds result h fs → ControlStands P frames result h (unwound P o.kind (Ref a) fs)
       unwound_ok [] w = at_some (get h a) o (λ o. T (is_assignable P o.kind (class_kind (built_in P built_ins.Throwable)))) e thrown
-      unwound_ok (f ∷ fs) w = here_or f fs w.0 w.1 (unwound_ok fs (waiting_unwinds h f.method fs w.1)) (handler_at P f.method f.offset o.kind) refl
+      unwound_ok (f ∷ fs) w = here_or f fs w.0 w.1 (unwound_ok fs (waiting_unwinds result h f.method fs w.1)) (handler_at P f.method f.offset o.kind) refl

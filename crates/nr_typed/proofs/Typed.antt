@@ -12,7 +12,7 @@ use Rattle.nr_heap.specs.declared.value.Value.TheVariants.{Int, Long, Null, Ref}
 use Rattle.nr_heap.specs.Heaps.{Obj, Heap}
 use Rattle.nr_heap.specs.Scripts.{Plain, plain, Script, GoTo, Throw, Return, ReturnTop, Call, Stuck, Push, PopInt, PopLong, Load, Store, Pick, Drop, AskLong, AskNull, AskSame, AskKind, ReadSlot, WriteSlot, Make, Print, Within, Ending, OnReference, is_long, is_null, is_same, without, new_object, with_slot, Wp}
 use Rattle.nr_heap.proofs.Heaps.{get_same, get_other}
-use Rattle.nr_typed.specs.Types.{Ty, Anything, Word, AnInt, Small, ALong, JustNull, Nullable, Object, Exact}
+use Rattle.nr_typed.specs.Types.{Ty, Anything, Word, AnInt, Small, ALong, JustNull, Nullable, Object, Just, Exact}
 use Rattle.nr_typed.specs.Belonging.{Belongs, Belong, no_place, one_place, Sharper}
 use Rattle.nr_typed.specs.TypedHeaps.{Counts, slot_ty, TypedHeap, Stays}
 use Rattle.nr_typed.specs.Fits.{OnTy, OnAnInt, OnALong, OnSize, OnNullness, OnKinds, OnExact, without_ty, Fits}
@@ -48,6 +48,11 @@ module _ (P : ProgramTables) where
   belongs_on h k s (Object c) Null b = b
   belongs_on h k s (Object c) (Int n) b = b
   belongs_on h k s (Object c) (Long n) b = b
+  belongs_on h k s (Just c) (Ref a) b =
+      let o = some_of (get h a) (λ o. o.kind ≡ c) b in let p = s.at a o.0 o.1 in at_some (get k a) p.0 (λ o. o.kind ≡ c) p.1 (p.2 ∙ o.2)
+  belongs_on h k s (Just c) Null b = b
+  belongs_on h k s (Just c) (Int n) b = b
+  belongs_on h k s (Just c) (Long n) b = b
   belongs_on h k s (Exact c n) (Ref a) b =
       let o = some_of (get h a) (λ o. (o.kind ≡ c) × (length o.slots ≡ n)) b in let p = s.at a o.0 o.1 in at_some (get k a) p.0 (λ o. (o.kind ≡ c) × (length o.slots ≡ n)) p.1 (p.2 ∙ o.2.0, p.3 ∙ o.2.1)
   belongs_on h k s (Exact c n) Null b = b
@@ -130,6 +135,8 @@ module _ (P : ProgramTables) where
   form_of h (Nullable k) _ C b x = absurd b
   form_of h (Object k) (Ref a) C b x = x
   form_of h (Object k) _ C b x = absurd b
+  form_of h (Just k) (Ref a) C b x = x
+  form_of h (Just k) _ C b x = absurd b
   form_of h (Exact k n) (Ref a) C b x = x
   form_of h (Exact k n) _ C b x = absurd b
 
@@ -148,6 +155,10 @@ module _ (P : ProgramTables) where
   reference_of h (Object c) (Long n) X Y C b x k m = absurd b
   reference_of h (Object c) Null X Y C b x k m = absurd b
   reference_of h (Object c) (Ref a) X Y C b x k m = m (Object c) a b x
+  reference_of h (Just c) (Int n) X Y C b x k m = absurd b
+  reference_of h (Just c) (Long n) X Y C b x k m = absurd b
+  reference_of h (Just c) Null X Y C b x k m = absurd b
+  reference_of h (Just c) (Ref a) X Y C b x k m = m (Just c) a b x
   reference_of h (Exact c n) (Int i) X Y C b x k m = absurd b
   reference_of h (Exact c n) (Long i) X Y C b x k m = absurd b
   reference_of h (Exact c n) Null X Y C b x k m = absurd b
@@ -160,6 +171,11 @@ module _ (P : ProgramTables) where
   object_of h (Object c) (Int n) Y b x = absurd b
   object_of h (Object c) (Long n) Y b x = absurd b
   object_of h (Object c) Null Y b x = absurd b
+  object_of h (Just c) (Ref a) Y b x = let o = some_of (get h a) (λ o. o.kind ≡ c) b in
+      (a, refl, o.0, o.1, subst (λ c. Counts P c (length o.0.slots) → Y c (length o.0.slots)) (sym o.2) (x (length o.0.slots)))
+  object_of h (Just c) (Int n) Y b x = absurd b
+  object_of h (Just c) (Long n) Y b x = absurd b
+  object_of h (Just c) Null Y b x = absurd b
   object_of h (Exact c n) (Ref a) Y b x = let o = some_of (get h a) (λ o. (o.kind ≡ c) × (length o.slots ≡ n)) b in
       (a, refl, o.0, o.1, subst₂ (λ c n. Counts P c n → Y c n) (sym o.2.0) (sym o.2.1) x)
   object_of h (Exact c n) (Int m) Y b x = absurd b

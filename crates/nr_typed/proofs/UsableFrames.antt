@@ -26,10 +26,10 @@ use Rattle.nr_heap.specs.Alike.{like_ref, AllLike, no_more, one_more, AlikeAt, a
 use Rattle.nr_heap.proofs.Matchings.{AlikeEnding, both_go, both_threw, both_gave, both_called}
 use Rattle.nr_heap.proofs.Frames.{locals_like}
 use Rattle.nr_typed.specs.Types.{Ty, Object, argument_tys, kind_ty, kind_tys, operand_tys, local_tys}
-use Rattle.nr_typed.specs.Belonging.{Belongs, Belong, NoLong}
+use Rattle.nr_typed.specs.Belonging.{Belong, NoLong}
 use Rattle.nr_typed.specs.TypedHeaps.{TypedHeap}
 use Rattle.nr_typed.specs.Fits.{Ends}
-use Rattle.nr_typed.specs.Standing.{Holds, Stands, Waits, AllWait, AllStand, ControlStands}
+use Rattle.nr_typed.specs.Standing.{Holds, Stands, Waits, AllWait, AllStand, IsResult, ControlStands}
 use Rattle.nr_typed.specs.Usable.{Usable, UsableLike, local_types, operand_types, UsableFrame, UsableFrames, no_frame, one_frame, UsableControl, both_run, both_return, both_throw}
 use Rattle.nr_typed.specs.Usable as usable
 use Rattle.nr_typed.proofs.Assigning.{by_kind}
@@ -38,7 +38,7 @@ use Rattle.nr_typed.proofs.Places.{both_admitted, places_belong}
 use Rattle.nr_typed.proofs.Agreeing.{Beside, Owing}
 use Rattle.nr_typed.proofs.Blanks.{blank, blank_kept, blank_length, blank_take, blank_drop, blank_ok, flow, places_usable, alike_usable, usable_length, usable_take, usable_drop, local_types_of, waiting_types, Fills, stands_fills, waits_fills}
 use Rattle.nr_typed.proofs.Steps.{none_some, some_same, some_both, frames, holds_on, all_wait_on, Unwinds, waiting_unwinds, unwound_ok}
-use Rattle.nr_typed.proofs.Progress.{Result, given_ok, called_control, enters, Owes}
+use Rattle.nr_typed.proofs.Progress.{given_ok, called_control, enters, Owes}
 
 -- ---- arguments and results are usable
 
@@ -61,7 +61,7 @@ length_result : (v : Option Value) (us vs : List Value) → length us ≡ length
 length_result None us vs e = e
 length_result (Some v) us vs e = ap suc e
 
-module _ (P : ProgramTables) (facts : TypingFacts P) (wt : WellTyped P) where
+module _ (P : ProgramTables) (facts : TypingFacts P) (wt : WellTyped P) (result : Option Kind) where
   abbrev FR : ℕ → List TypeFrame
   FR = frames P facts wt
 
@@ -89,16 +89,16 @@ module _ (P : ProgramTables) (facts : TypingFacts P) (wt : WellTyped P) where
 
     module _ (a b : ℕ) (r : R a b) (o : Obj) (e : get h a ≡ Some o) (thrown : T (is_assignable P o.kind (class_kind (built_in P built_ins.Throwable)))) where
       -- what belongs to the frame at the handler
-      handler_fills : (f : Frame) (fs : List Frame) → Unwinds P facts wt h (f ∷ fs) → (t : ℕ) → handler_at P f.method f.offset o.kind ≡ Some t → Fills P FR h f.method t f.locals (Ref a ∷ [])
+      handler_fills : (f : Frame) (fs : List Frame) → Unwinds P facts wt result h (f ∷ fs) → (t : ℕ) → handler_at P f.method f.offset o.kind ≡ Some t → Fills P FR h f.method t f.locals (Ref a ∷ [])
       handler_fills f fs w t z =
-          let c : AllStand P FR h (record f { offset = t; operands = Ref a ∷ [] } ∷ fs) = subst (λ x. ControlStands P FR h (on_some x (unwound P o.kind (Ref a) fs) (λ t. Running (record f { offset = t; operands = Ref a ∷ [] } ∷ fs)))) z (unwound_ok P facts wt h a o e thrown (f ∷ fs) w) in
+          let c : AllStand P FR result h (record f { offset = t; operands = Ref a ∷ [] } ∷ fs) = subst (λ x. ControlStands P FR result h (on_some x (unwound P o.kind (Ref a) fs) (λ t. Running (record f { offset = t; operands = Ref a ∷ [] } ∷ fs)))) z (unwound_ok P facts wt result h a o e thrown (f ∷ fs) w) in
           stands_fills P FR h (record f { offset = t; operands = Ref a ∷ [] }) c.0
 
-      pub unwound_usable : (fs gs : List Frame) → Unwinds P facts wt h fs → UsableFrames P FR R fs gs → UsableControl P FR R (unwound P o.kind (Ref a) fs) (unwound P o.kind (Ref b) gs)
+      pub unwound_usable : (fs gs : List Frame) → Unwinds P facts wt result h fs → UsableFrames P FR R fs gs → UsableControl P FR R (unwound P o.kind (Ref a) fs) (unwound P o.kind (Ref b) gs)
       unwound_usable fs gs w no_frame = both_throw (like_ref r)
       unwound_usable (f ∷ fs) (g ∷ gs) w (one_frame q bs) =
           subst₂ (λ m n. UsableControl P FR R (unwound P o.kind (Ref a) (f ∷ fs)) (on_some (handler_at P m n o.kind) (unwound P o.kind (Ref b) gs) (λ t. Running (record g { offset = t; operands = Ref b ∷ [] } ∷ gs)))) q.method q.offset
-          (go (handler_at P f.method f.offset o.kind) refl (unwound_usable fs gs (waiting_unwinds P facts wt h f.method fs w.1) bs))
+          (go (handler_at P f.method f.offset o.kind) refl (unwound_usable fs gs (waiting_unwinds P facts wt result h f.method fs w.1) bs))
         where
           go : (x : Option ℕ) → handler_at P f.method f.offset o.kind ≡ x → UsableControl P FR R (unwound P o.kind (Ref a) fs) (unwound P o.kind (Ref b) gs)
               → UsableControl P FR R (on_some x (unwound P o.kind (Ref a) fs) (λ t. Running (record f { offset = t; operands = Ref a ∷ [] } ∷ fs))) (on_some x (unwound P o.kind (Ref b) gs) (λ t. Running (record g { offset = t; operands = Ref b ∷ [] } ∷ gs)))
@@ -113,11 +113,12 @@ module _ (P : ProgramTables) (facts : TypingFacts P) (wt : WellTyped P) where
 
     -- ---- returns
 
-    result_flow : (i : MethodInfo) (v v2 : Option Value) → AlikeResult R v v2 → Result P facts wt h i v → (ts xs : List Ty) (us vs : List Value) → UsableLike R ts us vs
+    result_flow : (o : Option Kind) (v v2 : Option Value) → AlikeResult R v v2 → IsResult P h o v → (ts xs : List Ty) (us vs : List Value) → UsableLike R ts us vs
         → ((c : Value) → NoLong c → Belong P h xs (with_result v (blank c ts us))) → UsableLike R xs (with_result v us) (with_result v2 vs)
-    result_flow i v v2 no_result q ts xs us vs l f = flow P R h ts xs us vs l f
-    result_flow i v v2 (one_result {u} {v = z} k) q ts xs us vs l f = flow P R h (kind_ty q.0 ∷ ts) xs (u ∷ us) (z ∷ vs) (usable.one_place (λ x. k) l)
-        (λ c s. subst (λ w. Belong P h xs (w ∷ blank c ts us)) (sym (blank_kept c (kind_ty q.0) u (kind_usable q.0))) (f c s))
+    result_flow o v v2 no_result q ts xs us vs l f = flow P R h ts xs us vs l f
+    result_flow None v v2 (one_result {u} {v = z} a) q ts xs us vs l f = absurd q
+    result_flow (Some k) v v2 (one_result {u} {v = z} a) q ts xs us vs l f = flow P R h (kind_ty k ∷ ts) xs (u ∷ us) (z ∷ vs) (usable.one_place (λ x. a) l)
+        (λ c s. subst (λ w. Belong P h xs (w ∷ blank c ts us)) (sym (blank_kept c (kind_ty k) u (kind_usable k))) (f c s))
 
     -- the frame below, with anything in the places that aren't usable
     waits_blank : (c : Value) → NoLong c → (r : ℕ) (f : Frame) → Waits P FR h r f
@@ -147,15 +148,15 @@ module _ (P : ProgramTables) (facts : TypingFacts P) (wt : WellTyped P) where
     }
 
     -- what belongs to a frame to which a result was given
-    given_fills : (r : ℕ) (i : MethodInfo) → method_at P r ≡ Some i → (v : Option Value) → Result P facts wt h i v → (f : Frame) (fs : List Frame) → AllWait P FR h r (f ∷ fs) → (t : ℕ) → next_offset P f.method f.offset ≡ Some t
+    given_fills : (r : ℕ) (i : MethodInfo) → method_at P r ≡ Some i → (v : Option Value) → IsResult P h i.result v → (f : Frame) (fs : List Frame) → AllWait P FR result h r (f ∷ fs) → (t : ℕ) → next_offset P f.method f.offset ≡ Some t
         → Fills P FR h f.method t f.locals (with_result v f.operands)
     given_fills r i is_i v q f fs w t z =
-        let g = given_ok P facts wt h r i is_i v q (f ∷ fs) w in
+        let g = given_ok P facts wt result h r i is_i v q (f ∷ fs) w in
         let same : Some (Running (record f { offset = t; operands = with_result v f.operands } ∷ fs)) ≡ Some g.0 = sym (ap (option_map (λ t. Running (record f { offset = t; operands = with_result v f.operands } ∷ fs))) z) ∙ g.1 in
-        let c : AllStand P FR h (record f { offset = t; operands = with_result v f.operands } ∷ fs) = subst (ControlStands P FR h) (sym (some_same same)) g.2 in
+        let c : AllStand P FR result h (record f { offset = t; operands = with_result v f.operands } ∷ fs) = subst (ControlStands P FR result h) (sym (some_same same)) g.2 in
         stands_fills P FR h (record f { offset = t; operands = with_result v f.operands }) c.0
 
-    pub given_usable : (r : ℕ) (i : MethodInfo) → method_at P r ≡ Some i → (v v2 : Option Value) → AlikeResult R v v2 → Result P facts wt h i v → (fs gs : List Frame) → AllWait P FR h r fs → UsableFrames P FR R fs gs
+    pub given_usable : (r : ℕ) (i : MethodInfo) → method_at P r ≡ Some i → (v v2 : Option Value) → AlikeResult R v v2 → IsResult P h i.result v → (fs gs : List Frame) → AllWait P FR result h r fs → UsableFrames P FR R fs gs
         → (c d : Control) → given P v fs ≡ Some c → given P v2 gs ≡ Some d → UsableControl P FR R c d
     given_usable r i is_i v v2 l q fs gs w no_frame c d x y = subst₂ (UsableControl P FR R) (some_same x) (some_same y) (both_return l)
     given_usable r i is_i v v2 l q (f ∷ fs) (g ∷ gs) w (one_frame a bs) c d x y =
@@ -173,24 +174,25 @@ module _ (P : ProgramTables) (facts : TypingFacts P) (wt : WellTyped P) where
               method = a.method;
               offset = refl;
               locals = flow P R h L (local_types P FR f.method t) f.locals g.locals a.locals (λ k short. (fills k short).locals_belong);
-              operands = result_flow i v v2 l q ts (operand_types P FR f.method t (length (with_result v f.operands))) f.operands g.operands a.operands
+              operands = result_flow i.result v v2 l q ts (operand_types P FR f.method t (length (with_result v f.operands))) f.operands g.operands a.operands
                   (λ k short. subst (λ n. Belong P h (operand_types P FR f.method t n) (with_result v (blank k ts f.operands))) (length_result v _ _ (blank_length k ts f.operands)) (fills k short).operands_belong);
             }) bs))
 
   -- ---- after an instruction
-  module _ (s : State) (th : TypedHeap P s.heap) (f : Frame) (fs : List Frame) (st : Stands P FR s.heap f) (ws : AllWait P FR s.heap f.method fs) where
+  module _ (s : State) (th : TypedHeap P s.heap) (f : Frame) (fs : List Frame) (st : Stands P FR s.heap f) (ws : AllWait P FR result s.heap f.method fs) where
     abbrev pub Q : Ending → Within → Type 0
-    Q = Owes P facts wt s th f fs st ws
+    Q = Owes P facts wt result s th f fs st ws
 
     abbrev own : MethodInfo
     own = st.holds.method
 
     -- a method gives values of one kind
     pub one_kind : (w : Within) → Q (Gave (Some Null)) w → Q (Gave (Some (Int (pos 0)))) w → ⊥
-    one_kind w p q =
-        let a = p.4 in
-        let b = q.4 in
-        both_admitted P w.heap (kind_ty a.0) a.2 (subst (λ k. Belongs P w.heap (kind_ty k) (Int (pos 0))) (some_both b.1 a.1) b.2) (kind_usable a.0)
+    one_kind w p q = one_result_kind w.heap own.result p.4 q.4
+      where
+        one_result_kind : (h : Heap) (o : Option Kind) → IsResult P h o (Some Null) → IsResult P h o (Some (Int (pos 0))) → ⊥
+        one_result_kind h None p q = p
+        one_result_kind h (Some k) p q = both_admitted P h (kind_ty k) p q (kind_usable k)
 
     module _ (R : ℕ → ℕ → Type 0) (L ts : List Ty) (w1 w2 : Within) (b : Beside P s.heap Q one_kind R L ts w1 w2) (g : Frame) (gs : List Frame) (a : UsableFrame P FR R f g) (bs : UsableFrames P FR R fs gs) (c d : Control) where
       abbrev blanks : Value → Within
@@ -211,7 +213,7 @@ module _ (P : ProgramTables) (facts : TypingFacts P) (wt : WellTyped P) where
           let fills : (k : Value) → NoLong k → Fills P FR w1.heap f.method t (blank k L w1.locals) (blank k ts w1.operands) =
           λ k short.
           let q = owed (GoesTo t) o k short in
-          let z : AllStand P FR w1.heap (record f { offset = t; locals = blank k L w1.locals; operands = blank k ts w1.operands } ∷ fs) = subst (ControlStands P FR w1.heap) (sym (some_same q.2)) q.3 in
+          let z : AllStand P FR result w1.heap (record f { offset = t; locals = blank k L w1.locals; operands = blank k ts w1.operands } ∷ fs) = subst (ControlStands P FR result w1.heap) (sym (some_same q.2)) q.3 in
           stands_fills P FR w1.heap (record f { offset = t; locals = blank k L w1.locals; operands = blank k ts w1.operands }) z.0 in
           subst₂ (UsableControl P FR R) (some_same x) (some_same y) (both_run (one_frame (record {
             method = a.method;
@@ -230,7 +232,7 @@ module _ (P : ProgramTables) (facts : TypingFacts P) (wt : WellTyped P) where
               → option_map (λ (o : Obj). unwound P o.kind (Ref y) (g ∷ gs)) z ≡ Some d → UsableControl P FR R c d
           go o z e thrown (alike_at n) p1 p2 = subst₂ (UsableControl P FR R) (some_same p1) (some_same p2)
               (subst (λ k. UsableControl P FR R (unwound P o.kind (Ref x) (f ∷ fs)) (unwound P k (Ref y) (g ∷ gs))) n.kind
-              (unwound_usable R w1.heap x y r o e thrown (f ∷ fs) (g ∷ gs) (holds_on P facts wt s.heap w1.heap b.stays f st.holds, all_wait_on P facts wt s.heap w1.heap b.stays f.method fs ws) (one_frame a bs)))
+              (unwound_usable R w1.heap x y r o e thrown (f ∷ fs) (g ∷ gs) (holds_on P facts wt s.heap w1.heap b.stays f st.holds, all_wait_on P facts wt result s.heap w1.heap b.stays f.method fs ws) (one_frame a bs)))
 
       called : (n : ℕ) → Ends P s.heap Q (Called n) L ts → Q (Called n) w1 → after P (Called n) w1 f fs ≡ Some c → after P (Called n) w2 g gs ≡ Some d → UsableControl P FR R c d
       called n o q x y =
@@ -241,8 +243,8 @@ module _ (P : ProgramTables) (facts : TypingFacts P) (wt : WellTyped P) where
           λ k short.
           let z = owed (Called n) o k short in
           let l : operands_of t ≤ length (blank k ts w1.operands) = subst (λ m. operands_of t ≤ m) (sym (blank_length k ts w1.operands)) q.4.2 in
-          let same : called_control P facts wt n t (blanks k) f fs ≡ z.1 = some_same (sym (enters P facts wt f fs n t is_t (blanks k) l) ∙ z.2) in
-          let v = subst (ControlStands P FR w1.heap) (sym same) z.3 in
+          let same : called_control P facts wt result n t (blanks k) f fs ≡ z.1 = some_same (sym (enters P facts wt result f fs n t is_t (blanks k) l) ∙ z.2) in
+          let v = subst (ControlStands P FR result w1.heap) (sym same) z.3 in
           let r = waits_fills P FR w1.heap n (record f { locals = blank k L w1.locals; operands = drop (operands_of t) (blank k ts w1.operands) }) v.1.0 in
           subst (λ vs. Fills P FR w1.heap f.method f.offset (blank k L w1.locals) vs) (blank_drop (operands_of t) k ts w1.operands) r in
           let given : (k : Value) → NoLong k → Belong P w1.heap (argument_tys t) (blank k (take (operands_of t) ts) (take (operands_of t) w1.operands)) =
@@ -252,9 +254,9 @@ module _ (P : ProgramTables) (facts : TypingFacts P) (wt : WellTyped P) where
           (subst (λ (t : MethodInfo). Belong P w1.heap (argument_tys t) (take (operands_of t) (blank k ts w1.operands))) (some_both z.1 is_t) z.3) in
           let args : AllLike R (take (operands_of t) w1.operands) (take (operands_of t) w2.operands) =
           arguments_alike R t _ _ (flow P R w1.heap (take (operands_of t) ts) (argument_tys t) _ _ (usable_take P R (operands_of t) ts _ _ operands_agree) given) in
-          let same1 = some_same (sym (enters P facts wt f fs n t is_t w1 q.4.2) ∙ x) in
-          let same2 = some_same (sym (enters P facts wt g gs n t is_t w2 l2) ∙ y) in
-          let now = subst (ControlStands P FR w1.heap) (sym (some_same (sym (enters P facts wt f fs n t is_t w1 q.4.2) ∙ q.2))) q.3 in
+          let same1 = some_same (sym (enters P facts wt result f fs n t is_t w1 q.4.2) ∙ x) in
+          let same2 = some_same (sym (enters P facts wt result g gs n t is_t w2 l2) ∙ y) in
+          let now = subst (ControlStands P FR result w1.heap) (sym (some_same (sym (enters P facts wt result f fs n t is_t w1 q.4.2) ∙ q.2))) q.3 in
           let top = stands_fills P FR w1.heap (first_frame t n (take (operands_of t) w1.operands)) now.0 in
           subst₂ (UsableControl P FR R) same1 same2 (both_run (one_frame (record {
             method = refl;
@@ -272,5 +274,5 @@ module _ (P : ProgramTables) (facts : TypingFacts P) (wt : WellTyped P) where
       pub after_usable : (e1 e2 : Ending) → AlikeEnding R e1 e2 → Owing P s.heap Q one_kind e1 L ts → Q e1 w1 → after P e1 w1 f fs ≡ Some c → after P e2 w2 g gs ≡ Some d → UsableControl P FR R c d
       after_usable e1 e2 (both_go {t}) o q x y = goes t o x y
       after_usable e1 e2 (both_threw {x} {y} r) o q p1 p2 = threw x y r q p1 p2
-      after_usable e1 e2 (both_gave {u} {v} l) o q x y = given_usable R w1.heap f.method own st.holds.is_method u v l q.4 fs gs (all_wait_on P facts wt s.heap w1.heap b.stays f.method fs ws) bs c d x y
+      after_usable e1 e2 (both_gave {u} {v} l) o q x y = given_usable R w1.heap f.method own st.holds.is_method u v l q.4 fs gs (all_wait_on P facts wt result s.heap w1.heap b.stays f.method fs ws) bs c d x y
       after_usable e1 e2 (both_called {m}) o q x y = called m o q x y

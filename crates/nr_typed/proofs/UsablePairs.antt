@@ -1,5 +1,7 @@
 -- Where all places agree, the usable ones do.
 use Rattle.std.proofs.Common.{ℕ, List, [], ◌∷◌, length, inl, inr}
+use Rattle.std.specs.Prelude.{Option}
+use Rattle.nr_linked.specs.declared.program.kind.Kind.{Kind}
 use Rattle.nr_linked.specs.declared.program.tables.ProgramTables.{ProgramTables}
 use Rattle.nr_linked.specs.TypingFrames.{TypeFrame}
 use Rattle.nr_heap.specs.Heaps.{Heap}
@@ -21,15 +23,15 @@ module _ (P : ProgramTables) (FR : ℕ → List TypeFrame) where
       operands = alike_usable P R h (operand_types P FR f.method f.offset (length f.operands)) f.operands g.operands x.operands_belong a.operands;
     }
 
-    waiting_usable : (r : ℕ) (fs gs : List Frame) → AllWait P FR h r fs → alike.AlikeFrames R fs gs → UsableFrames P FR R fs gs
-    waiting_usable r fs gs w alike.no_frame = no_frame
-    waiting_usable r (f ∷ fs) (g ∷ gs) w (alike.one_frame a bs) = one_frame (frame_usable f g (waits_fills P FR h r f w.0) a) (waiting_usable f.method fs gs w.1 bs)
+    waiting_usable : (result : Option Kind) (r : ℕ) (fs gs : List Frame) → AllWait P FR result h r fs → alike.AlikeFrames R fs gs → UsableFrames P FR R fs gs
+    waiting_usable result r fs gs w alike.no_frame = no_frame
+    waiting_usable result r (f ∷ fs) (g ∷ gs) w (alike.one_frame a bs) = one_frame (frame_usable f g (waits_fills P FR h r f w.0) a) (waiting_usable result f.method fs gs w.1 bs)
 
-    control_usable : (c d : Control) → ControlStands P FR h c → alike.AlikeControl R c d → UsableControl P FR R c d
-    control_usable c d x (alike.both_run alike.no_frame) = absurd x
-    control_usable c d x (alike.both_run (alike.one_frame {f} {g} {fs} {gs} a bs)) = both_run (one_frame (frame_usable f g (stands_fills P FR h f x.0) a) (waiting_usable f.method fs gs x.1 bs))
-    control_usable c d x (alike.both_return l) = both_return l
-    control_usable c d x (alike.both_throw l) = both_throw l
+    control_usable : (result : Option Kind) (c d : Control) → ControlStands P FR result h c → alike.AlikeControl R c d → UsableControl P FR R c d
+    control_usable result c d x (alike.both_run alike.no_frame) = absurd x
+    control_usable result c d x (alike.both_run (alike.one_frame {f} {g} {fs} {gs} a bs)) = both_run (one_frame (frame_usable f g (stands_fills P FR h f x.0) a) (waiting_usable result f.method fs gs x.1 bs))
+    control_usable result c d x (alike.both_return l) = both_return l
+    control_usable result c d x (alike.both_throw l) = both_throw l
 
   in_frames : (fs gs : List Frame) (x y : ℕ) → InUsableFrames P FR fs gs x y → InFrames fs gs x y
   in_frames [] gs x y p = absurd p
@@ -55,9 +57,9 @@ module _ (P : ProgramTables) (FR : ℕ → List TypeFrame) where
       to_right = p.to_right;
     }
 
-    pub all_usable : StandsIn P FR s → PairedStates ps s t → UsablePaired P FR ps s t
-    all_usable x a = record {
-      shape = control_usable alike.Any s.heap s.control t.control x.control a.shape;
+    pub all_usable : (result : Option Kind) → StandsIn P FR result s → PairedStates ps s t → UsablePaired P FR ps s t
+    all_usable result x a = record {
+      shape = control_usable alike.Any s.heap result s.control t.control x.control a.shape;
       heaps = record {
         distinct = λ x y u v p q. a.heaps.distinct x y u v (fewer x y p) (fewer u v q);
         agree = λ x y p. a.heaps.agree x y (fewer x y p);

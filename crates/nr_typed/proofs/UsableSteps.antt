@@ -1,6 +1,7 @@
 -- Steps keep that two states agree at usable places and are paired.
 use Rattle.std.proofs.Common.{◌≡◌, ℕ, zero, suc, List, ◌++◌, length, refl, sym, ap, ap₂, subst, subst₂, ◌∙◌, inl, inr}
-use Rattle.std.specs.Prelude.{Some, IsSomeAnd, slice_get}
+use Rattle.std.specs.Prelude.{Option, Some, IsSomeAnd, slice_get}
+use Rattle.nr_linked.specs.declared.program.kind.Kind.{Kind}
 use Rattle.nr_linked.specs.declared.program.tables.ProgramTables.{ProgramTables}
 use Rattle.nr_linked.specs.TypingFrames.{TypeFrame}
 use Rattle.nr_linked.specs.TypingFacts.{TypingFacts}
@@ -90,7 +91,8 @@ module _ (P : ProgramTables) (FR : ℕ → List TypeFrame) (R : ℕ → ℕ → 
 
 -- ---- steps
 
-module _ (P : ProgramTables) (facts : TypingFacts P) (wt : WellTyped P) where
+-- of machines whose first methods have these results
+module _ (P : ProgramTables) (facts : TypingFacts P) (wt : WellTyped P) (result second : Option Kind) where
   abbrev FR : ℕ → List TypeFrame
   FR = frames P facts wt
 
@@ -103,7 +105,7 @@ module _ (P : ProgramTables) (facts : TypingFacts P) (wt : WellTyped P) where
     pub printed : s'.printed ≡ t'.printed
 
   module _ (R : ℕ → ℕ → Type 0) (s t : State) (m : Matched R s.heap t.heap) (out : s.printed ≡ t.printed) (th : TypedHeap P s.heap) (f g : Frame) (fs gs : List Frame) (a : UsableFrame P FR R f g) (bs : UsableFrames P FR R fs gs)
-      (st : Stands P FR s.heap f) (ws : AllWait P FR s.heap f.method fs) (other : Stands P FR t.heap g) where
+      (st : Stands P FR s.heap f) (ws : AllWait P FR result s.heap f.method fs) (other : Stands P FR t.heap g) where
     abbrev L : List Ty
     L = local_tys st.holds.method st.holds.method.max_locals st.holds.types.locals
 
@@ -124,30 +126,30 @@ module _ (P : ProgramTables) (facts : TypingFacts P) (wt : WellTyped P) where
     step_by : (s' t' : State) → StepBy P (script P st.holds.method st.holds.site) f fs s s' → StepBy P (script P st.holds.method st.holds.site) g gs t t' → LaterState R s t s' t'
     step_by s' t' p q =
         let sc = script P st.holds.method st.holds.site in
-        let l : Later P s.heap (Q P facts wt s th f fs st ws) (one_kind P facts wt s th f fs st ws) R s.heap t.heap p.ending q.ending p.left q.left =
-        agreeing P s.heap (Q P facts wt s th f fs st ws) (one_kind P facts wt s th f fs st ws) sc R L ts (within s.heap f) (within t.heap g) p.left q.left p.ending q.ending
-        (record { typed = th; stays = stays_self s.heap; heap = m; printed = refl; locals = start_locals; operands = start_operands }) (step_fits P facts wt s th f fs st ws) p.runs q.runs in
-        let ended = ends_so (Q P facts wt s th f fs st ws) p.ending p.left sc (within s.heap f) (step_owes P facts wt s th f fs st ws) p.runs in
+        let l : Later P s.heap (Q P facts wt result s th f fs st ws) (one_kind P facts wt result s th f fs st ws) R s.heap t.heap p.ending q.ending p.left q.left =
+        agreeing P s.heap (Q P facts wt result s th f fs st ws) (one_kind P facts wt result s th f fs st ws) sc R L ts (within s.heap f) (within t.heap g) p.left q.left p.ending q.ending
+        (record { typed = th; stays = stays_self s.heap; heap = m; printed = refl; locals = start_locals; operands = start_operands }) (step_fits P facts wt result s th f fs st ws) p.runs q.runs in
+        let ended = ends_so (Q P facts wt result s th f fs st ws) p.ending p.left sc (within s.heap f) (step_owes P facts wt result s th f fs st ws) p.runs in
         record {
           now = l.now;
           moved = subst₂ (λ h k. Moved R s.heap t.heap l.now h k) (sym p.heap) (sym q.heap) l.moved;
           heap = subst₂ (λ h k. Matched l.now h k) (sym p.heap) (sym q.heap) l.beside.heap;
-          control = after_usable P facts wt s th f fs st ws l.now l.local_tys l.operand_tys p.left q.left l.beside g gs
+          control = after_usable P facts wt result s th f fs st ws l.now l.local_tys l.operand_tys p.left q.left l.beside g gs
               (frame_more P FR R l.now l.moved.older f g a) (frames_more P FR R l.now l.moved.older fs gs bs) s'.control t'.control p.ending q.ending l.ending l.owing ended p.control q.control;
           printed = p.printed ∙ ap₂ (λ x y. x ++ y) out l.beside.printed ∙ sym q.printed;
         }
 
-  from : (R : ℕ → ℕ → Type 0) (c d : Control) (s t s' t' : State) → Matched R s.heap t.heap → s.printed ≡ t.printed → TypedHeap P s.heap → ControlStands P FR s.heap c → ControlStands P FR t.heap d → UsableControl P FR R c d
+  from : (R : ℕ → ℕ → Type 0) (c d : Control) (s t s' t' : State) → Matched R s.heap t.heap → s.printed ≡ t.printed → TypedHeap P s.heap → ControlStands P FR result s.heap c → ControlStands P FR second t.heap d → UsableControl P FR R c d
       → StepOf P c s s' → StepOf P d t t' → LaterState R s t s' t'
   from R c d s t s' t' m out th x y (both_run no_frame) p q = absurd p
   from R c d s t s' t' m out th x y (both_run (one_frame {f} {g} {fs} {gs} a bs)) p q =
-      let e = does P facts wt s th f fs x.0 x.1 in
+      let e = does P facts wt result s th f fs x.0 x.1 in
       let q : IsSomeAnd (script_at P f.method f.offset) (λ sc. StepBy P sc g gs t t') = subst₂ (λ m o. IsSomeAnd (script_at P m o) (λ sc. StepBy P sc g gs t t')) (sym a.method) (sym a.offset) q in
       step_by R s t m out th f g fs gs a bs x.0 x.1 y.0 s' t' (subst (λ o. IsSomeAnd o (λ sc. StepBy P sc f fs s s')) e p) (subst (λ o. IsSomeAnd o (λ sc. StepBy P sc g gs t t')) e q)
   from R c d s t s' t' m out th x y (both_return l) p q = absurd p
   from R c d s t s' t' m out th x y (both_throw l) p q = absurd p
 
-  module _ (ps : List (ℕ × ℕ)) (s t s' t' : State) (x : StandsIn P FR s) (y : StandsIn P FR t) (a : UsablePaired P FR ps s t) (p : Step P s s') (q : Step P t t') where
+  module _ (ps : List (ℕ × ℕ)) (s t s' t' : State) (x : StandsIn P FR result s) (y : StandsIn P FR second t) (a : UsablePaired P FR ps s t) (p : Step P s s') (q : Step P t t') where
     abbrev PairsOf : ℕ → ℕ → Type 0
     PairsOf = IsPair (UsableStart P FR ps s t) s.heap t.heap
 
@@ -165,10 +167,10 @@ module _ (P : ProgramTables) (facts : TypingFacts P) (wt : WellTyped P) where
           printed = l.printed;
         }
 
-  pub runs_usable : (n : ℕ) (ps : List (ℕ × ℕ)) (s t s' t' : State) → StandsIn P FR s → StandsIn P FR t → UsablePaired P FR ps s t → Run P s n s' → Run P t n t' → UsablePaired P FR ps s' t'
+  pub runs_usable : (n : ℕ) (ps : List (ℕ × ℕ)) (s t s' t' : State) → StandsIn P FR result s → StandsIn P FR second t → UsablePaired P FR ps s t → Run P s n s' → Run P t n t' → UsablePaired P FR ps s' t'
   runs_usable zero ps s t s' t' x y a p q = subst₂ (UsablePaired P FR ps) (sym p) (sym q) a
   runs_usable (suc n) ps s t s' t' x y a p q =
-      runs_usable n ps p.0 q.0 s' t' (preservation P facts wt s p.0 x p.1) (preservation P facts wt t q.0 y q.1) (steps_usable ps s t p.0 q.0 x y a p.1 q.1) p.2 q.2
+      runs_usable n ps p.0 q.0 s' t' (preservation P facts wt result s p.0 x p.1) (preservation P facts wt second t q.0 y q.1) (steps_usable ps s t p.0 q.0 x y a p.1 q.1) p.2 q.2
 
   -- both have ended, or neither has
   end_over : (R : ℕ → ℕ → Type 0) (c d : Control) → UsableControl P FR R c d → IsEnd c → IsEnd d
@@ -181,16 +183,16 @@ module _ (P : ProgramTables) (facts : TypingFacts P) (wt : WellTyped P) where
   end_back R c d (both_return l) e = tt
   end_back R c d (both_throw l) e = tt
 
-  pub run_too : (n : ℕ) (ps : List (ℕ × ℕ)) (s t s' : State) → StandsIn P FR s → StandsIn P FR t → UsablePaired P FR ps s t → Run P s n s' → (t' : State) × Run P t n t'
+  pub run_too : (n : ℕ) (ps : List (ℕ × ℕ)) (s t s' : State) → StandsIn P FR result s → StandsIn P FR second t → UsablePaired P FR ps s t → Run P s n s' → (t' : State) × Run P t n t'
   run_too zero ps s t s' x y a p = (t, refl)
   run_too (suc n) ps s t s' x y a p =
-      let q = progress P facts wt t y (λ e. no_step P s.control s p.0 (end_back Any s.control t.control a.shape e) p.1) in
-      let r = run_too n ps p.0 q.0 s' (preservation P facts wt s p.0 x p.1) (preservation P facts wt t q.0 y q.1) (steps_usable ps s t p.0 q.0 x y a p.1 q.1) p.2 in
+      let q = progress P facts wt second t y (λ e. no_step P s.control s p.0 (end_back Any s.control t.control a.shape e) p.1) in
+      let r = run_too n ps p.0 q.0 s' (preservation P facts wt result s p.0 x p.1) (preservation P facts wt second t q.0 y q.1) (steps_usable ps s t p.0 q.0 x y a p.1 q.1) p.2 in
       (r.0, (q.0, q.1, r.1))
 
-  pub ends_together : (n k : ℕ) (ps : List (ℕ × ℕ)) (s t s' t' : State) → StandsIn P FR s → StandsIn P FR t → UsablePaired P FR ps s t → Run P s n s' → Run P t k t' → IsEnd s'.control → IsEnd t'.control → n ≡ k
+  pub ends_together : (n k : ℕ) (ps : List (ℕ × ℕ)) (s t s' t' : State) → StandsIn P FR result s → StandsIn P FR second t → UsablePaired P FR ps s t → Run P s n s' → Run P t k t' → IsEnd s'.control → IsEnd t'.control → n ≡ k
   ends_together zero zero ps s t s' t' x y a p q e f = refl
   ends_together zero (suc k) ps s t s' t' x y a p q e f = absurd (no_step P t.control t q.0 (end_over Any s.control t.control a.shape (subst (λ s. IsEnd s.control) p e)) q.1)
   ends_together (suc n) zero ps s t s' t' x y a p q e f = absurd (no_step P s.control s p.0 (end_back Any s.control t.control a.shape (subst (λ t. IsEnd t.control) q f)) p.1)
   ends_together (suc n) (suc k) ps s t s' t' x y a p q e f =
-      ap suc (ends_together n k ps p.0 q.0 s' t' (preservation P facts wt s p.0 x p.1) (preservation P facts wt t q.0 y q.1) (steps_usable ps s t p.0 q.0 x y a p.1 q.1) p.2 q.2 e f)
+      ap suc (ends_together n k ps p.0 q.0 s' t' (preservation P facts wt result s p.0 x p.1) (preservation P facts wt second t q.0 y q.1) (steps_usable ps s t p.0 q.0 x y a p.1 q.1) p.2 q.2 e f)

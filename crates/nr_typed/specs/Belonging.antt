@@ -11,7 +11,7 @@ use Rattle.nr_heap.specs.declared.value.Value.{Value}
 use Rattle.nr_heap.specs.declared.value.Value.TheVariants.{Long, Null}
 use Rattle.nr_heap.specs.Heaps.{Heap}
 use Rattle.nr_heap.specs.Scripts.{OnInt, OnLong, OnRef, OnReference}
-use Rattle.nr_typed.specs.Types.{Ty, Anything, Word, AnInt, Small, ALong, JustNull, Nullable, Object, Exact}
+use Rattle.nr_typed.specs.Types.{Ty, Anything, Word, AnInt, Small, ALong, JustNull, Nullable, Object, Just, Exact}
 
 -- the range of a primitive type (2.3.1, 2.3.4)
 abbrev pub InRange : Base → ℤ → Type 0
@@ -46,6 +46,7 @@ Belongs P h ALong v = OnLong v (λ n. Unit {0})
 Belongs P h JustNull v = IsNull v
 Belongs P h (Nullable k) v = OnReference v (λ r. IfName r (NamesOne P h k))
 Belongs P h (Object k) v = OnRef v (NamesOne P h k)
+Belongs P h (Just k) v = OnRef v (λ a. IsSomeAnd (get h a) (λ o. o.kind ≡ k))
 Belongs P h (Exact k n) v = OnRef v (λ a. IsSomeAnd (get h a) (λ o. (o.kind ≡ k) × (length o.slots ≡ n)))
 
 -- place by place

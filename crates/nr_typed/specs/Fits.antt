@@ -7,7 +7,7 @@ use Rattle.nr_linked.specs.Subtypes.{is_assignable}
 use Rattle.nr_heap.specs.declared.value.Value.{Value}
 use Rattle.nr_heap.specs.Heaps.{Heap}
 use Rattle.nr_heap.specs.Scripts.{Plain, plain, Script, GoTo, Throw, Return, ReturnTop, Call, Stuck, Push, PopInt, PopLong, Load, Store, Pick, Drop, AskLong, AskNull, AskSame, AskKind, ReadSlot, WriteSlot, Make, Print, Within, Ending, GoesTo, Threw, Gave, Called, OnRef}
-use Rattle.nr_typed.specs.Types.{Ty, Anything, AnInt, Small, ALong, JustNull, Nullable, Object, Exact}
+use Rattle.nr_typed.specs.Types.{Ty, Anything, AnInt, Small, ALong, JustNull, Nullable, Object, Just, Exact}
 use Rattle.nr_typed.specs.Belonging.{Belongs, Belong, Sharper}
 use Rattle.nr_typed.specs.TypedHeaps.{Counts, slot_ty, TypedHeap, Stays}
 
@@ -37,12 +37,14 @@ abbrev pub OnNullness : Ty → Type 0 → (Ty → Type 0) → Type 0
 OnNullness JustNull X Y = X
 OnNullness (Nullable k) X Y = X × Y (Object k)
 OnNullness (Object k) X Y = Y (Object k)
+OnNullness (Just k) X Y = Y (Just k)
 OnNullness (Exact k n) X Y = Y (Exact k n)
 OnNullness t X Y = ⊥
 
 -- Y at each kind and length that an object of the type may have
 abbrev pub OnKinds : ProgramTables → Ty → (Kind → ℕ → Type 0) → Type 0
 OnKinds P (Object k) Y = (e : Kind) (n : ℕ) → T (is_assignable P e k) → Counts P e n → Y e n
+OnKinds P (Just k) Y = (n : ℕ) → Counts P k n → Y k n
 OnKinds P (Exact k n) Y = Counts P k n → Y k n
 OnKinds P t Y = ⊥
 

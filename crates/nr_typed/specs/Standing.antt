@@ -1,6 +1,7 @@
 -- States that stand in their heap: the frames hold values of the types of the well-typed program's frames.
-use Rattle.std.specs.Prelude.{◌≡◌, ℕ, ◌≤◌, List, [], ◌∷◌, drop, Some}
+use Rattle.std.specs.Prelude.{◌≡◌, ℕ, ◌≤◌, List, [], ◌∷◌, drop, Option, Some, None}
 use Rattle.nr_linked.specs.declared.program.built_in.BuiltIn.TheVariants.{Throwable}
+use Rattle.nr_linked.specs.declared.program.kind.Kind.{Kind}
 use Rattle.nr_linked.specs.declared.program.tables.MethodInfo.{MethodInfo}
 use Rattle.nr_linked.specs.declared.program.tables.ProgramTables.{ProgramTables}
 use Rattle.nr_linked.specs.declared.program.tables.Resolved.TheVariants as resolved
@@ -8,7 +9,7 @@ use Rattle.nr_prog.specs.declared.body.whole.Body.{Body}
 use Rattle.nr_optable.specs.declared.table.Family.TheVariants.{F32}
 use Rattle.nr_linked.specs.BuiltIns.{built_in}
 use Rattle.nr_linked.specs.Kinds.{class_kind}
-use Rattle.nr_linked.specs.Programs.{method_at}
+use Rattle.nr_linked.specs.Programs.{method_at, result_of}
 use Rattle.nr_linked.specs.Sites.{Site, site_at}
 use Rattle.nr_linked.specs.TypingFrames.{TypeFrame, total_size}
 use Rattle.nr_linked.specs.WellTyped.{frame_at}
@@ -17,7 +18,7 @@ use Rattle.nr_heap.specs.Heaps.{Heap}
 use Rattle.nr_heap.specs.CallRules.{operands_of}
 use Rattle.nr_heap.specs.States.{Frame, Control, Running, Returned, Thrown, State}
 use Rattle.nr_heap.specs.Steps.{first_frame}
-use Rattle.nr_typed.specs.Types.{Ty, Object, operand_tys, local_tys}
+use Rattle.nr_typed.specs.Types.{Ty, Object, kind_ty, operand_tys, local_tys}
 use Rattle.nr_typed.specs.Belonging.{Belongs, Belong}
 use Rattle.nr_typed.specs.TypedHeaps.{TypedHeap}
 
@@ -39,14 +40,15 @@ pub record Stands (P : ProgramTables) (frames : ℕ → List TypeFrame) (h : Hea
   pub operands : Belong P h (operand_tys holds.method holds.types.operands) f.operands
   pub room : total_size holds.types.operands ≤ holds.method.max_stack
 
--- both take the same arguments and give the same result
-pub record SameDescriptor (i j : MethodInfo) : Type 0 where
+-- both have the same name, take the same arguments and give the same result
+pub record SameNameAndDescriptor (i j : MethodInfo) : Type 0 where
+  pub name : i.name ≡ j.name
   pub flags : operands_of i ≡ operands_of j
   pub params : i.params ≡ j.params
   pub result : i.result ≡ j.result
 
--- A frame below one of method r waits at a call: r has the descriptor of the method to which the call resolves, and the
--- frame has the operands of its types without the arguments.
+-- A frame below one of method r waits at a call: r has the name and the descriptor of the method to which the call
+-- resolves, and the frame has the operands of its types without the arguments.
 pub record Waits (P : ProgramTables) (frames : ℕ → List TypeFrame) (h : Heap) (r : ℕ) (f : Frame) : Type 0 where
   pub holds : Holds P frames h f
   pub is_call : holds.site.instr.row.family ≡ F32
@@ -57,30 +59,38 @@ pub record Waits (P : ProgramTables) (frames : ℕ → List TypeFrame) (h : Heap
   pub is_target : method_at P named ≡ Some target
   pub above : MethodInfo
   pub is_above : method_at P r ≡ Some above
-  pub same : SameDescriptor target above
+  pub same : SameNameAndDescriptor target above
   pub operands : Belong P h (operand_tys holds.method (drop (operands_of target) holds.types.operands)) f.operands
 
-abbrev pub AllWait : ProgramTables → (ℕ → List TypeFrame) → Heap → ℕ → List Frame → Type 0
-AllWait P frames h r [] = Unit {0}
-AllWait P frames h r (f ∷ fs) = Waits P frames h r f × AllWait P frames h f.method fs
+-- the frames below one of method r, each of which waits under the one above it; the bottom frame's method has the result
+abbrev pub AllWait : ProgramTables → (ℕ → List TypeFrame) → Option Kind → Heap → ℕ → List Frame → Type 0
+AllWait P frames result h r [] = result_of P r ≡ result
+AllWait P frames result h r (f ∷ fs) = Waits P frames h r f × AllWait P frames result h f.method fs
 
 -- at least one frame
-abbrev pub AllStand : ProgramTables → (ℕ → List TypeFrame) → Heap → List Frame → Type 0
-AllStand P frames h [] = ⊥
-AllStand P frames h (f ∷ fs) = Stands P frames h f × AllWait P frames h f.method fs
+abbrev pub AllStand : ProgramTables → (ℕ → List TypeFrame) → Option Kind → Heap → List Frame → Type 0
+AllStand P frames result h [] = ⊥
+AllStand P frames result h (f ∷ fs) = Stands P frames h f × AllWait P frames result h f.method fs
+
+-- what is returned: nothing where there is no result, and else what a result of the kind is
+abbrev pub IsResult : ProgramTables → Heap → Option Kind → Option Value → Type 0
+IsResult P h None None = Unit {0}
+IsResult P h (Some k) (Some v) = Belongs P h (kind_ty k) v
+IsResult P h result v = ⊥
 
 abbrev pub throwable : ProgramTables → Ty
 throwable P = Object (class_kind (built_in P Throwable))
 
--- an end by a throw holds a throwable object
-abbrev pub ControlStands : ProgramTables → (ℕ → List TypeFrame) → Heap → Control → Type 0
-ControlStands P frames h (Running fs) = AllStand P frames h fs
-ControlStands P frames h (Returned v) = Unit {0}
-ControlStands P frames h (Thrown v) = Belongs P h (throwable P) v
+-- an end by a return holds the result, and one by a throw a throwable object
+abbrev pub ControlStands : ProgramTables → (ℕ → List TypeFrame) → Option Kind → Heap → Control → Type 0
+ControlStands P frames result h (Running fs) = AllStand P frames result h fs
+ControlStands P frames result h (Returned v) = IsResult P h result v
+ControlStands P frames result h (Thrown v) = Belongs P h (throwable P) v
 
-pub record StandsIn (P : ProgramTables) (frames : ℕ → List TypeFrame) (s : State) : Type 0 where
+-- a state of a machine whose first method has the result
+pub record StandsIn (P : ProgramTables) (frames : ℕ → List TypeFrame) (result : Option Kind) (s : State) : Type 0 where
   pub heap : TypedHeap P s.heap
-  pub control : ControlStands P frames s.heap s.control
+  pub control : ControlStands P frames result s.heap s.control
 
 -- the same machine in another heap
 abbrev pub with_heap : Heap → State → State

@@ -6,6 +6,7 @@ use Rattle.nr_linked.specs.declared.program.kind.Base.TheVariants as bases
 use Rattle.nr_linked.specs.declared.program.kind.Kind.{Kind}
 use Rattle.nr_linked.specs.declared.program.tables.ProgramTables.{ProgramTables}
 use Rattle.nr_linked.specs.Slots.{slots_of}
+use Rattle.nr_linked.specs.Subtypes.{is_assignable}
 use Rattle.nr_linked.specs.TypingFacts.{is_makeable}
 use Rattle.nr_heap.specs.declared.value.Value.{Value}
 use Rattle.nr_heap.specs.Heaps.{Obj, Heap, on_some}
@@ -17,7 +18,8 @@ pub record IsObjectOf (P : ProgramTables) (c n : ℕ) : Type 0 where
   pub makeable : T (is_makeable P c)
   pub count : n ≡ length (slots_of P c)
 
--- an object or an array of the kind with n slots is possible; an array has as many as it likes
+-- an object or an array of the kind with n slots is possible; an array has as many as it likes, and its kind is one of the
+-- program
 abbrev pub Counts : ProgramTables → Kind → ℕ → Type 0
 Counts P k n = by_dims k.dims
   where
@@ -27,7 +29,7 @@ Counts P k n = by_dims k.dims
 
     by_dims : ℕ → Type 0
     by_dims zero = of_base k.base
-    by_dims (suc d) = Unit {0}
+    by_dims (suc d) = T (is_assignable P k k)
 
 -- what the slot i of such an object holds
 abbrev pub slot_ty : ProgramTables → Kind → ℕ → Ty
@@ -41,8 +43,8 @@ slot_ty P k i = by_dims k.dims
     by_dims zero = of_base k.base
     by_dims (suc d) = kept_ty (record k { dims = d })
 
--- Each object is of a class that can have objects, with its slots, and each slot holds what belongs to it; so each name
--- in a slot is one of the heap.
+-- Each object is of a class that can have objects, with its slots; each array is of a kind of the program; and each slot
+-- holds what belongs to it, so each name in a slot is one of the heap.
 pub record TypedHeap (P : ProgramTables) (h : Heap) : Type 0 where
   pub count : (a : ℕ) (o : Obj) → get h a ≡ Some o → Counts P o.kind (length o.slots)
   pub slots : (a : ℕ) (o : Obj) → get h a ≡ Some o → (i : ℕ) (v : Value) → slice_get o.slots i ≡ Some v → Belongs P h (slot_ty P o.kind i) v

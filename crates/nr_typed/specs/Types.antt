@@ -20,7 +20,8 @@ pub data Ty : Type 0 where
   JustNull : Ty
   Nullable : Kind → Ty  -- null, or a reference to an object that goes where the kind is wanted
   Object : Kind → Ty  -- such a reference
-  Exact : Kind → ℕ → Ty  -- a reference to an object of just this kind, with so many slots
+  Just : Kind → Ty  -- a reference to an object of just this kind
+  Exact : Kind → ℕ → Ty  -- the same with so many slots
 
 -- ---- of kinds
 
@@ -51,15 +52,15 @@ kept_ty k = if is_reference k then Nullable k else kept_base k.base
 
 -- ---- of the verifier's types, in a method
 
--- what the verifier's type means, where `top` is what Top means. An object that isn't initialised is of the class that
--- its `new` makes, and `this` is of the method's class or one below it.
+-- what the verifier's type means, where `top` is what Top means. An object that isn't initialised is of just the class
+-- that its `new` makes, and `this` is of the method's class or one below it.
 abbrev pub ty_of : Ty → MethodInfo → VType → Ty
 ty_of top m types.Top = top
 ty_of top m types.Int = AnInt
 ty_of top m types.Long = ALong
 ty_of top m types.Null = JustNull
 ty_of top m types.UninitThis = Object (class_kind m.«class»)
-ty_of top m (types.Uninit n) = on_some (class_made_at m n) JustNull (λ c. Object (class_kind c))
+ty_of top m (types.Uninit n) = on_some (class_made_at m n) JustNull (λ c. Just (class_kind c))
 ty_of top m (types.Class k) = Nullable k
 
 abbrev pub operand_tys : MethodInfo → List VType → List Ty

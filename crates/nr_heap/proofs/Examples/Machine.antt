@@ -7,12 +7,9 @@
 use Rattle.std.proofs.Common.{◌≡◌, ℕ, ◌+◌, List, [], ◌∷◌, refl, sym, subst}
 use Rattle.std.specs.Prelude.{Option, Some, None, IsSomeAnd, codes}
 use Rattle.std.specs.FinMap.{get, insert}
-use Rattle.std.specs.Prelude.{find, ◌==◌}
-use Rattle.std.specs.Option.{unwrap_or}
-use Rattle.nr_optable.specs.declared.table.Row.{Row}
 use Rattle.nr_optable.specs.declared.table.Family.TheVariants.{F1}
 use Rattle.nr_optable.specs.declared.table.Shape.TheVariants.{Plain}
-use Rattle.nr_optable.specs.Rows.{op, none, all_rows}
+use Rattle.nr_optable.specs.Rows.{op, none}
 use Rattle.nr_prog.specs.declared.body.instruction.Args.{Args}
 use Rattle.nr_prog.specs.declared.body.instruction.Args.TheVariants as args
 use Rattle.nr_prog.specs.declared.body.instruction.Instr.{Instr}
@@ -34,6 +31,7 @@ use Rattle.nr_linked.specs.Kinds.{class_kind}
 use Rattle.nr_heap.specs.declared.value.Value.{Value}
 use Rattle.nr_heap.specs.declared.value.Value.TheVariants.{Ref}
 use Rattle.nr_heap.specs.Heaps.{Obj, Heap}
+use Rattle.nr_heap.specs.Example.{row_of}
 use Rattle.nr_heap.specs.Scripts.{Within, Ending, GoesTo, Threw, Runs, new_object, with_slot}
 use Rattle.nr_heap.specs.States.{Frame, Running, State}
 use Rattle.nr_heap.specs.Steps.{script_at, Step}
@@ -121,10 +119,6 @@ built b = 4 + number b
 
 -- ---- one instruction, which stands at 0; the next stands at 8
 
--- the row of a code in the table of instructions
-abbrev pub row_of : ℕ → Row
-row_of code = unwrap_or (find (λ r. r.code == code) all_rows) (op 0 F1 Plain none none)
-
 abbrev pub instr : ℕ → Args → Instr
 instr code a = record { at = 0; row = row_of code; args = a }
 
@@ -149,7 +143,7 @@ abbrev pub Leads : Instr → Resolved → Heap → List Value → List Value →
 Leads i found h locals operands offset locals' operands' printed =
     IsSomeAnd (script_at (alone i found) 0 0) (λ sc. Runs sc (left_in h locals operands []) (GoesTo offset) (left_in h locals' operands' printed))
 
-some_map : {X : Type 0} (o : Option X) (A B : X → Type 0) → ((x : X) → A x → B x) → IsSomeAnd o A → IsSomeAnd o B
+pub some_map : {X : Type 0} (o : Option X) (A B : X → Type 0) → ((x : X) → A x → B x) → IsSomeAnd o A → IsSomeAnd o B
 some_map None A B k p = absurd p
 some_map (Some x) A B k p = k x p
 

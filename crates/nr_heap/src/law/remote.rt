@@ -1,12 +1,13 @@
 //! Runs with remote calls beside runs of one machine.
 
-ghost use Rattle.std.specs.Prelude.{◌≡◌, ℕ, Bool, List, Option};
+ghost use Rattle.std.specs.Prelude.{◌≡◌, ◌≢◌, ℕ, Bool, List, Option, None};
+ghost use Rattle.std.specs.FinMap.{get};
 ghost use Rattle.nr_linked.specs.declared.program.tables.ProgramTables.{ProgramTables};
 ghost use Rattle.nr_heap.specs.States.{IsEnd, State};
 ghost use Rattle.nr_heap.specs.Steps.{Run};
 ghost use Rattle.nr_heap.specs.Asks.{AskRun, Entry};
-ghost use Rattle.nr_heap.specs.LocalEntries.{AllFated, EachLocal, EachLocalOrFaulted, Mirrors};
-ghost use Rattle.nr_heap.specs.Pairs.{PairedStates};
+ghost use Rattle.nr_heap.specs.LocalEntries.{AllFated, EachLocal, EachLocalOrFaulted, EachOwn, IsLocal, IsOwn, Mirrors};
+ghost use Rattle.nr_heap.specs.Pairs.{Holds, IsClosed, PairedStates};
 
 /// Promises that a run with remote calls, each of which left the same as a local run and printed the same,
 /// and each of whose reference arguments is restored, is matched by a run of one machine alone: the two
@@ -16,6 +17,22 @@ pub fn remote_runs_are_local()
         (s t s' : State) (calls : List Entry)
         → PairedStates pairs s t → AskRun p service fault s calls k s' → EachLocal p calls
         → (n : ℕ) × (t' : State) × Run p t n t' × PairedStates pairs s' t' }
+{}
+
+/// Promises that a run with remote calls, each of which was answered by just what a local run left, and each
+/// of whose reference arguments is restored, is a run of one machine alone to the same state. It does
+/// nothing.
+pub fn own_runs_are_local()
+    ensures { (p : ProgramTables) (service : Option ℕ) (fault : ℕ) (k : ℕ) (s s' : State) (calls : List Entry)
+        → AskRun p service fault s calls k s' → EachOwn p calls → (n : ℕ) × Run p s n s' }
+{}
+
+/// Promises that a call that was answered by just what a local run left was answered by the same as a local
+/// run left, where each reference in the heap before, and each among the arguments, is to an object of that
+/// heap; whatever garbage the run left, and also where it had copies. It does nothing.
+pub fn own_calls_are_local()
+    ensures { (p : ProgramTables) (e : Entry)
+        → IsClosed e.before → ((x : ℕ) → Holds e.args x → get e.before x ≢ None) → IsOwn p e → IsLocal p e }
 {}
 
 /// Promises that a run with remote calls, each of which met a fault, or left the same as a local run and

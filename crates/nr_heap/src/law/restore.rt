@@ -1,13 +1,13 @@
 //! What a remote call leaves after its restore.
 
-ghost use Rattle.std.specs.Prelude.{◌≡◌, ◌≢◌, ℕ, List, Option, Some, None};
+ghost use Rattle.std.specs.Prelude.{◌≡◌, ◌≢◌, ℕ, List, Option, None};
 ghost use Rattle.std.specs.FinMap.{get};
 ghost use Rattle.nr_linked.specs.declared.program.tables.ProgramTables.{ProgramTables};
 ghost use Rattle.nr_heap.specs.declared.value.Value.{Value};
 ghost use Rattle.nr_heap.specs.Heaps.{Heap};
 ghost use Rattle.nr_heap.specs.States.{Returned, State};
 ghost use Rattle.nr_heap.specs.Steps.{Run};
-ghost use Rattle.nr_heap.specs.Pairs.{IsPair, Listed, PairedStates, StartOf, slot_name};
+ghost use Rattle.nr_heap.specs.Pairs.{IsClosed, IsPair, Listed, PairedStates, StartOf};
 ghost use Rattle.nr_heap.specs.LocalEntries.{RestoresPairs};
 ghost use Rattle.nr_heap.specs.Same.{Same};
 
@@ -19,7 +19,7 @@ ghost use Rattle.nr_heap.specs.Same.{Same};
 pub fn restores_are_local()
     ensures { (p : ProgramTables) (n : ℕ) (pairs : List (ℕ × ℕ)) (h r : Heap) (s t s' t' : State) (u v w : Option Value)
         → PairedStates pairs s t → Run p s n s' → Run p t n t' → s'.control ≡ Returned u → t'.control ≡ Returned v
-        → ((x i y : ℕ) → slot_name h x i ≡ Some y → get h y ≢ None)
+        → IsClosed h
         → ((x : ℕ) → get h x ≢ None → get s.heap x ≡ get h x)
         → ((x y : ℕ) → IsPair (StartOf pairs s t) s.heap t.heap x y → Listed pairs x y)
         → RestoresPairs h pairs t'.heap v r w → Same h s'.heap u r w }

@@ -43,7 +43,7 @@ impl MemFolder {
 }
 
 impl Folder for MemFolder {
-    ghost use Rattle.std.specs.Prelude.{◌≡◌, ◌≤◌, ◌⊎◌, map, false, None, IfOk, IsErrOf, IsTrue, IsPermutation, vec_len};
+    ghost use Rattle.std.specs.Prelude.{◌≡◌, ◌≢◌, ◌≤◌, ◌⊎◌, map, None, IfOk, IsErrOf, IsTrue, IsPermutation, vec_len};
     ghost use Rattle.std.specs.String.{string_bytes};
     ghost use Rattle.nr_outside.specs.Causes.{HasCause, Rose};
     ghost use Rattle.nr_outside.specs.FailPlan.{is_planned, IsCounted};
@@ -96,19 +96,22 @@ impl Folder for MemFolder {
             ⊎ (file_at dir.now path.now (mem_folder_files self.old) ≡ None) }
         ensures counted { IsCounted self.old.plan self.new.plan }
 
-        // A planned fault isn't counted among the reads of files that aren't there, and such a read
-        // isn't counted among the planned faults.
-        ensures planned_lacks { IsTrue (is_planned self.old.plan)
-            → self.new.lacks ≡ self.old.lacks }
-        ensures absent_faults { is_planned self.old.plan ≡ false
-            → self.new.faults ≡ self.old.faults }
+        // A read of a file that isn't there counts among the lacks, whether it was to fail or not;
+        // any other fault counts among the faults.
+        ensures there { file_at dir.now path.now (mem_folder_files self.old) ≢ None
+            → HasCause self.old.faults self.new.faults result
+            × (self.new.lacks ≡ self.old.lacks) }
+        ensures not_there { file_at dir.now path.now (mem_folder_files self.old) ≡ None
+            → HasCause self.old.lacks self.new.lacks result
+            × (self.new.faults ≡ self.old.faults) }
     {
-        if self.plan.is_next_to_fail() {
+        let fails = self.plan.is_next_to_fail();
+        let Some(bytes) = bytes_of(&self.files, dir, path) else {
+            return Err(failed(&mut self.lacks));
+        };
+        if fails {
             return Err(failed(&mut self.faults));
         }
-        match bytes_of(&self.files, dir, path) {
-            Some(bytes) => Ok(bytes[..max.min(bytes.len())].to_vec(alloc)?),
-            None => Err(failed(&mut self.lacks)),
-        }
+        Ok(bytes[..max.min(bytes.len())].to_vec(alloc)?)
     }
 }

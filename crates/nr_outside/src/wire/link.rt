@@ -65,6 +65,7 @@ impl Link {
         ensures bound { IfOk result (λ n. n ≤ length into.new) }
         ensures gives { Gives self.old.given.items (link_to_come self.old) self.new.given.items
             (link_to_come self.new) result into.new }
+        ensures into { OnErr result (into.new ≡ into.old) }
         ensures piece { IfOk result
             (λ n. GivesOfOne (length into.old) n (link_pieces self.old) (link_pieces self.new)) }
         ensures kept { OnErr result (link_pieces self.new ≡ link_pieces self.old) }
@@ -87,6 +88,7 @@ impl Link {
         ensures bound { IfOk result (λ n. n ≤ length into.new) }
         ensures gives { Gives self.old.given.items (link_to_come self.old) self.new.given.items
             (link_to_come self.new) result into.new }
+        ensures into { OnErr result (into.new ≡ into.old) }
         ensures piece { IfOk result
             (λ n. GivesOfOne (length into.old) n (link_pieces self.old) (link_pieces self.new)) }
         ensures kept { OnErr result (link_pieces self.new ≡ link_pieces self.old) }

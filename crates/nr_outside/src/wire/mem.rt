@@ -304,6 +304,7 @@ impl Wire for MemWire {
         ensures bound { IfOk result (λ n. n ≤ length into.new) }
         ensures gives { Gives self.old.live.given.items (link_to_come self.old.live)
             self.new.live.given.items (link_to_come self.new.live) result into.new }
+        ensures into { OnErr result (into.new ≡ into.old) }
         ensures piece { IfOk result (λ n. GivesOfOne (length into.old) n (mem_wire_pieces self.old)
             (mem_wire_pieces self.new)) }
         ensures kept { OnErr result (mem_wire_pieces self.new ≡ mem_wire_pieces self.old) }

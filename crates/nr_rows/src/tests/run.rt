@@ -12,6 +12,7 @@ run d M 1|9||nrmi: budget 1
 run d N 4|5||nrmi: link NoClass N
 run d a.b 4|5||nrmi: link NoClass a/b
 run other N 4|5||nrmi: link NoClass N
+run e M 10|5||nrmi: link NoClass M
 |2||nrmi: words
 run d M|2||nrmi: words
 run d M 04|2||nrmi: words

@@ -1,4 +1,4 @@
-use Rattle.nr_heap.proofs.Kept.{pairs_kept, pairs_run_too, pairs_one_length}
+use Rattle.nr_heap.proofs.Kept.{pairs_kept, pairs_grown, pairs_run_too, pairs_one_length}
 use Rattle.nr_heap.proofs.law.pair.runs_keep_pairs.Goals as goal
 
 pub returns-clause-kept : goal.returns-clause-kept
@@ -9,3 +9,6 @@ returns-clause-both_run c = pairs_run_too
 
 pub returns-clause-one_length : goal.returns-clause-one_length
 returns-clause-one_length c = λ p n k pairs s t s' t' a r q. pairs_one_length p n pairs s t s' a r k t' q
+
+pub returns-clause-grown : goal.returns-clause-grown
+returns-clause-grown c = λ p n pairs s t s' t' a r q. pairs_grown p n pairs s t s' a r t' q
