@@ -1,20 +1,20 @@
 -- The entries of the built-in classes and of their methods, in the tables of a program.
-use Rattle.std.proofs.Common.{◌≡◌, ℕ, zero, suc, ◌+◌, ◌-◌, ◌<◌, ◌≤◌, ◌⊎◌, inl, inr, Bool, true, false, List, [], ◌∷◌, length, map, drop, refl, sym, ap, subst, ◌∙◌, arith, length-drop, not, ◌&&◌, ◌||◌}
-use Rattle.std.specs.Prelude.{Option, Some, None, IsTrue, Contains, slice_get, nat_lt, ◌==◌}
-use Rattle.std.specs.List.{flat_map, list_all}
+use Rattle.std.proofs.Common.{◌≡◌, ℕ, ◌+◌, ◌-◌, ◌≤◌, Bool, false, map, refl, sym, ap, ◌∙◌, arith}
+use Rattle.std.specs.Prelude.{Some, IsTrue, slice_get}
+use Rattle.std.specs.List.{list_all}
 use Rattle.std.specs.Option.{option_map}
-use Rattle.std.proofs.lemmas.Bool.{eqb-true, both_ways, ltb-true, lt-ltb, ltb-false}
-use Rattle.std.proofs.lemmas.Option.{same_Some, slice_get-map, slice_get_within}
+use Rattle.std.proofs.lemmas.Bool.{ltb-false}
+use Rattle.std.proofs.lemmas.Option.{slice_get-map}
 use Rattle.nr_linked.specs.declared.program.built_in.BuiltIn.{BuiltIn}
 use Rattle.nr_linked.specs.declared.program.built_in.BuiltIn.TheVariants.{Object, Cloneable, Throwable, Exception, Error, RuntimeException, ArithmeticException, ArrayStoreException, ClassCastException, IllegalArgumentException, IllegalStateException, IndexOutOfBoundsException, NegativeArraySizeException, NullPointerException, ArrayIndexOutOfBoundsException, LinkageError, IncompatibleClassChangeError, AbstractMethodError, Serializable, Restorable, Out}
 use Rattle.nr_linked.specs.declared.program.tables.ClassInfo.{ClassInfo}
 use Rattle.nr_linked.specs.declared.program.tables.MethodInfo.{MethodInfo}
 use Rattle.nr_linked.specs.declared.program.tables.ProgramTables.{ProgramTables}
-use Rattle.nr_linked.specs.BuiltIns.{BuiltInMethod, built_in, built_in_class, built_in_count, number}
+use Rattle.nr_linked.specs.BuiltIns.{BuiltInMethod, built_in, built_in_class, number}
 use Rattle.nr_linked.specs.BuiltInTables.{built_in_info, built_in_infos, built_in_method, built_in_methods, built_ins}
-use Rattle.nr_linked.specs.Linked.{Linked, built_in_method_count, first_built_in, first_built_in_method, is_loaded}
+use Rattle.nr_linked.specs.Linked.{Linked, first_built_in, first_built_in_method, is_loaded}
 use Rattle.nr_linked.specs.Programs.{class_at, method_at}
-use Rattle.nr_links.proofs.Places.{get_below, get_dropped, get_flat, get_mapped, passes_at}
+use Rattle.nr_links.proofs.Places.{get_dropped, get_flat, get_mapped, passes_at}
 
 abbrev pub info_of : ProgramTables → BuiltIn → ClassInfo
 info_of P b = built_in_info (first_built_in P) (first_built_in_method P) b

@@ -1,8 +1,8 @@
 -- The facts of a call for which linking found a method.
-use Rattle.std.proofs.Common.{◌≡◌, ℕ, zero, suc, ◌<◌, ◌⊎◌, inl, inr, Bool, true, false, List, [], ◌∷◌, ◌++◌, length, find, cond, refl, sym, ap, subst, ◌∙◌, arith, not, ◌&&◌, ◌||◌}
-use Rattle.std.specs.Prelude.{Option, Some, None, All, IsTrue, slice_get, codes, ◌==◌, if◌then◌else◌}
+use Rattle.std.proofs.Common.{◌≡◌, ℕ, zero, suc, inl, inr, Bool, true, false, List, [], ◌∷◌, ◌++◌, length, refl, sym, ap, subst, ◌∙◌}
+use Rattle.std.specs.Prelude.{Option, Some, None, All, IsTrue, slice_get, codes, if◌then◌else◌}
 use Rattle.std.specs.List.{flat_map}
-use Rattle.std.specs.Option.{option_and_then, option_map_or}
+use Rattle.std.specs.Option.{option_map_or}
 use Rattle.std.specs.Str.{bytes_eq}
 use Rattle.std.proofs.lemmas.Bool.{and_parts}
 use Rattle.std.proofs.lemmas.Option.{get_or_from_slice_get, same_Some, slice_get_within}
@@ -13,10 +13,9 @@ use Rattle.nr_linked.specs.declared.program.tables.ProgramTables.{ProgramTables}
 use Rattle.nr_linked.specs.declared.program.tables.Resolved.{Resolved}
 use Rattle.nr_linked.specs.declared.program.tables.Resolved.TheVariants as resolved
 use Rattle.nr_prog.specs.declared.pool.PoolEntry.{PoolEntry}
-use Rattle.nr_linked.specs.Initialisers.{is_initialiser}
 use Rattle.nr_linked.specs.Linked.{Linked}
 use Rattle.nr_linked.specs.Programs.{class_at, is_interface, method_at, methods_of, superclasses}
-use Rattle.nr_linked.specs.Selection.{is_called, is_private}
+use Rattle.nr_linked.specs.Selection.{is_called}
 use Rattle.nr_linked.specs.Subtypes.{Above, IsDirectlyAbove, further, is_above, itself}
 use Rattle.nr_linked.specs.TypingFacts.{CallFacts}
 use Rattle.nr_links.specs.Found.{CanCall, IsCallFound}
@@ -24,8 +23,8 @@ use Rattle.nr_links.specs.Links.{IsDecoded, Links}
 use Rattle.nr_links.specs.Resolution.{classes_for, interface_and_above, interfaces_of, is_called_at, method_classes, resolved_method, superinterfaces}
 use Rattle.nr_links.proofs.Described.{initialiser_result, same_bytes}
 use Rattle.nr_links.proofs.Places.{found, get_either, get_flat, passing}
-use Rattle.nr_links.proofs.Selecting.{Held, held}
-use Rattle.nr_links.proofs.Upward.{above_trans, down, has_entry, one_step, step_of, superclass_above}
+use Rattle.nr_links.proofs.Selecting.{held}
+use Rattle.nr_links.proofs.Upward.{above_trans, down, has_entry, step_of, superclass_above}
 
 -- ---- where a method is looked for stands above
 

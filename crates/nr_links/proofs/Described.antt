@@ -1,10 +1,10 @@
 -- What the descriptor of a method says is what its entry says; and what holds of initialisers and of the methods of nrmi/Out.
-use Rattle.std.proofs.Common.{◌≡◌, ℕ, zero, suc, ◌+◌, ◌-◌, ◌<◌, ◌≤◌, ◌⊎◌, inl, inr, Bool, true, false, List, [], ◌∷◌, length, map, refl, sym, ap, subst, ◌∙◌, arith, not, ◌&&◌, ◌||◌, lit≤}
-use Rattle.std.specs.Prelude.{Option, Some, None, All, Contains, IfSome, IsTrue, slice_get, nat_eq, nat_le, codes, is_none, ◌==◌, is_some, if◌then◌else◌}
+use Rattle.std.proofs.Common.{◌≡◌, ℕ, zero, suc, ◌+◌, inl, inr, Bool, true, false, List, [], ◌∷◌, map, refl, sym, ap, subst, ◌∙◌, arith, not, ◌||◌, lit≤}
+use Rattle.std.specs.Prelude.{Option, Some, None, All, IsTrue, slice_get, codes, is_none, is_some, if◌then◌else◌}
 use Rattle.std.specs.List.{AllByRecursion, list_all}
-use Rattle.std.specs.Option.{IsSomeAnd, option_map, option_map_or}
+use Rattle.std.specs.Option.{option_map}
 use Rattle.std.specs.Str.{bytes_eq}
-use Rattle.std.proofs.lemmas.Bool.{and_parts, both_ways, eqb-true, not-true, or_cases}
+use Rattle.std.proofs.lemmas.Bool.{both_ways, not-true, or_cases}
 use Rattle.std.proofs.lemmas.Option.{get_or_from_slice_get, same_Some, slice_get_within}
 use Rattle.std.proofs.lemmas.Slice.Eq.{bytes_eq-Decides}
 use Rattle.nr_base.specs.declared.desc.types.DescBase.TheVariants as desc_bases
@@ -19,7 +19,7 @@ use Rattle.nr_prog.specs.BodyText.{BodyFor}
 use Rattle.nr_prog.specs.Members.{has_its_code, is_abstract, is_static}
 use Rattle.nr_prog.specs.Pool.{text_at}
 use Rattle.nr_linked.specs.declared.program.built_in.BuiltIn.{BuiltIn}
-use Rattle.nr_linked.specs.declared.program.built_in.BuiltIn.TheVariants.{Object, Cloneable, Throwable, Exception, Error, RuntimeException, ArithmeticException, ArrayStoreException, ClassCastException, IllegalArgumentException, IllegalStateException, IndexOutOfBoundsException, NegativeArraySizeException, NullPointerException, ArrayIndexOutOfBoundsException, LinkageError, IncompatibleClassChangeError, AbstractMethodError, Serializable, Restorable, Out}
+use Rattle.nr_linked.specs.declared.program.built_in.BuiltIn.TheVariants.{Object, Cloneable, Serializable, Restorable, Out}
 use Rattle.nr_linked.specs.declared.program.kind.Kind.{Kind}
 use Rattle.nr_linked.specs.declared.program.tables.MethodInfo.{MethodInfo}
 use Rattle.nr_linked.specs.declared.program.tables.ProgramTables.{ProgramTables}
@@ -27,11 +27,11 @@ use Rattle.nr_linked.specs.BuiltIns.{BuiltInMethod, built_in, built_in_class, nu
 use Rattle.nr_linked.specs.BuiltInTables.{built_in_method, built_ins}
 use Rattle.nr_linked.specs.Initialisers.{is_initialiser}
 use Rattle.nr_linked.specs.KindTexts.{kind_desc}
-use Rattle.nr_linked.specs.Linked.{Linked, first_built_in, is_loaded}
+use Rattle.nr_linked.specs.Linked.{first_built_in, is_loaded}
 use Rattle.nr_linked.specs.Programs.{method_at}
 use Rattle.nr_linked.specs.TypingFacts.{BuiltInFacts}
 use Rattle.nr_links.specs.Links.{IsDecoded, Links}
-use Rattle.nr_links.proofs.BuiltInEntries.{BuiltInEntry, listed, on_all}
+use Rattle.nr_links.proofs.BuiltInEntries.{listed, on_all}
 use Rattle.nr_links.proofs.Descriptors.{one_list, one_method_desc, one_option}
 use Rattle.nr_links.proofs.MethodEntries.{LoadedMethod, method_cases}
 use Rattle.nr_links.proofs.Places.{passes_at, some_of}

@@ -1,6 +1,6 @@
 -- A descriptor says one type, and a type of a program has one kind.
-use Rattle.std.proofs.Common.{◌≡◌, ℕ, zero, suc, ◌<◌, ◌≤◌, ◌⊎◌, inl, inr, Bool, true, false, List, [], ◌∷◌, length, map, refl, sym, ap, subst, ◌∙◌, arith, Result, Ok, Err, ◌&&◌}
-use Rattle.std.specs.Prelude.{Option, Some, None, IsTrue, nat_lt, slice_get}
+use Rattle.std.proofs.Common.{◌≡◌, ℕ, true, List, [], ◌∷◌, length, map, refl, sym, ap, ◌∙◌, Result, Ok}
+use Rattle.std.specs.Prelude.{Option, Some, None, IsTrue}
 use Rattle.std.specs.List.{list_all}
 use Rattle.std.specs.Option.{option_map, option_map_or}
 use Rattle.std.proofs.lemmas.Bool.{and_parts, ltb-true}
@@ -8,10 +8,8 @@ use Rattle.std.proofs.lemmas.Option.{same_Some}
 use Rattle.nr_base.specs.declared.desc.fault.DescFault.{DescFault}
 use Rattle.nr_base.specs.declared.desc.fault.DescFault.TheVariants as faults
 use Rattle.nr_base.specs.declared.desc.types.Desc.{Desc}
-use Rattle.nr_base.specs.declared.desc.types.DescBase.{DescBase}
 use Rattle.nr_base.specs.declared.desc.types.MethodDesc.{MethodDesc}
-use Rattle.nr_base.specs.DescReading.{desc_of, method_of}
-use Rattle.nr_base.specs.Descs.{desc, desc_text, method_desc}
+use Rattle.nr_base.specs.Descs.{desc, method_desc}
 use Rattle.nr_base.proofs.DescLaws.{desc_law}
 use Rattle.nr_base.proofs.Laws.{whole_only}
 use Rattle.nr_prog.proofs.LegalLaws.{method_only}

@@ -1,35 +1,26 @@
 -- The example's classes have the form of class files, and their bodies are those that their code spells.
-use Rattle.std.proofs.Common.{◌≡◌, ℕ, zero, suc, ◌+◌, ◌<◌, ◌≤◌, true, false, List, [], ◌∷◌, ◌++◌, length, refl, sym, ap, subst, inl, inr, lit<, lit≤, arith, Bool, not, ◌&&◌}
-use Rattle.std.specs.Prelude.{Option, Some, None, All, AllPairs, IsTrue, IsSomeAnd, slice_get, slice_index_or, codes}
-use Rattle.std.specs.Int.{w8, w16}
-use Rattle.std.specs.List.{AllByRecursion}
-use Rattle.std.proofs.lemmas.List.Elements.{All-cons, All-from_recursion, All-nil}
-use Rattle.nr_base.specs.Grammar.{Then, Times, number}
-use Rattle.nr_base.specs.Descs.{desc, method_desc}
-use Rattle.nr_base.specs.ModifiedUtf8.{IsModifiedUtf8}
+use Rattle.std.proofs.Common.{◌≡◌, ℕ, zero, suc, ◌≤◌, List, [], ◌∷◌, length, refl, inl, inr, lit<, lit≤, arith}
+use Rattle.std.specs.Prelude.{Some, None, All, AllPairs, IsTrue, slice_index_or, codes}
+use Rattle.std.proofs.lemmas.List.Elements.{All-from_recursion, All-nil}
 use Rattle.nr_base.specs.declared.desc.types.Desc.{Desc}
 use Rattle.nr_base.specs.declared.desc.types.DescBase.TheVariants as desc_bases
 use Rattle.nr_base.specs.declared.desc.types.MethodDesc.{MethodDesc}
 use Rattle.nr_optable.specs.Rows.{all_rows}
 use Rattle.nr_optable.specs.declared.table.Row.{Row}
-use Rattle.nr_prog.specs.declared.body.instruction.Args.{Args}
 use Rattle.nr_prog.specs.declared.body.instruction.Args.TheVariants.{Empty, Pool}
-use Rattle.nr_prog.specs.declared.body.instruction.Instr.{Instr}
 use Rattle.nr_prog.specs.declared.body.frame_map.MapType.TheVariants as map_types
 use Rattle.nr_prog.specs.declared.member.Field.{Field}
-use Rattle.nr_prog.specs.declared.member.Handler.{Handler}
 use Rattle.nr_prog.specs.declared.member.Method.{Method}
-use Rattle.nr_prog.specs.declared.parts.ClassParts.{ClassParts}
 use Rattle.nr_prog.specs.declared.pool.PoolEntry.{PoolEntry}
 use Rattle.nr_prog.specs.BodyMaps.{IsEntry, IsMapped, at_entry, frame, frame_types, with_map}
-use Rattle.nr_prog.specs.BodyNames.{IsUsed, NamesAnyClass, class_text_at, desc_text_at}
+use Rattle.nr_prog.specs.BodyNames.{class_text_at, desc_text_at}
 use Rattle.nr_prog.specs.BodyStarts.{is_start}
-use Rattle.nr_prog.specs.BodyText.{HasBodies, HasTargets, IsBody, IsHandler, IsInstr}
+use Rattle.nr_prog.specs.BodyText.{HasTargets, IsBody, IsHandler, IsInstr}
 use Rattle.nr_prog.specs.Form.{AreApart, IsFieldFormed, IsFormed, IsInitialiser, IsMethodFormed, Spells}
 use Rattle.nr_prog.specs.Legal.{IsClassText, IsMethodText}
 use Rattle.nr_prog.specs.Members.{has_its_code, is_constant_formed, is_plain, spells}
 use Rattle.nr_prog.specs.Pool.{entry_at, is_entry_formed, text_at}
-use Rattle.nr_links.specs.Example.{code_of, main_code, a_loaded, a_methods, a_parts, a_pool, aload_0, dup, face_loaded, face_method, face_parts, getfield, handler, init_body, instr, invokeinterface, invokespecial, ireturn, loaded, m_body, main_body, main_map, new_, pop, return_, iconst_0}
+use Rattle.nr_links.specs.Example.{code_of, main_code, a_loaded, a_methods, a_parts, a_pool, aload_0, dup, face_loaded, face_method, face_parts, getfield, handler, init_body, instr, invokeinterface, invokespecial, ireturn, loaded, m_body, main_body, new_, pop, return_, iconst_0}
 use Rattle.nr_links.specs.Links.{IsDecoded}
 use Rattle.nr_links.proofs.ExampleLinks.{all_of_one, int_desc, is_int_desc, is_void_desc, legal, legal_a, legal_face, legal_object, legal_throwable}
 use Rattle.nr_links.proofs.Listed.{AtEach, at_place}

@@ -1,6 +1,6 @@
 -- The example's classes link to its tables.
-use Rattle.std.proofs.Common.{◌≡◌, ℕ, zero, suc, ◌+◌, ◌<◌, true, false, List, [], ◌∷◌, ◌++◌, length, refl, sym, ap, subst, inl, inr, lit<, lit≤, arith, Bool, not, ◌&&◌}
-use Rattle.std.specs.Prelude.{Option, Some, None, All, IsTrue, slice_get, slice_index, slice_index_or, codes, nat_lt}
+use Rattle.std.proofs.Common.{◌≡◌, ℕ, zero, suc, ◌+◌, true, false, List, [], ◌∷◌, refl, subst, inl, lit≤, arith, Bool, not, ◌&&◌}
+use Rattle.std.specs.Prelude.{Option, Some, None, All, IsTrue, slice_get, slice_index_or, codes, nat_lt}
 use Rattle.std.specs.List.{AllByRecursion, flat_map, list_all}
 use Rattle.std.proofs.lemmas.Bool.{and_parts, both_ways, ltb-true, not-true}
 use Rattle.std.proofs.lemmas.List.Elements.{All-nil}
@@ -13,21 +13,16 @@ use Rattle.nr_base.specs.declared.desc.types.DescBase.TheVariants as desc_bases
 use Rattle.nr_base.specs.declared.desc.types.MethodDesc.{MethodDesc}
 use Rattle.nr_prog.specs.declared.body.loaded.Loaded.{Loaded}
 use Rattle.nr_prog.specs.declared.body.whole.Body.{Body}
-use Rattle.nr_prog.specs.declared.member.Field.{Field}
 use Rattle.nr_prog.specs.declared.member.Method.{Method}
 use Rattle.nr_prog.specs.declared.parts.ClassParts.{ClassParts}
-use Rattle.nr_linked.specs.declared.program.kind.Kind.{Kind}
 use Rattle.nr_linked.specs.declared.program.tables.ClassInfo.{ClassInfo}
 use Rattle.nr_linked.specs.declared.program.tables.MethodInfo.{MethodInfo}
-use Rattle.nr_linked.specs.declared.program.tables.ProgramTables.{ProgramTables}
-use Rattle.nr_linked.specs.declared.program.tables.Resolved.{Resolved}
 use Rattle.nr_linked.specs.declared.program.tables.Resolved.TheVariants as resolved
 use Rattle.nr_prog.specs.BodyNames.{class_text_at, desc_text_at}
 use Rattle.nr_prog.specs.Legal.{IsClassText}
 use Rattle.nr_prog.specs.Members.{is_in, is_spelled, spells}
 use Rattle.nr_prog.specs.Form.{Spells}
 use Rattle.nr_prog.specs.Pool.{text_at}
-use Rattle.nr_linked.specs.declared.program.types.VFrame.{VFrame}
 use Rattle.nr_linked.specs.declared.program.types.VType.TheVariants.{Class}
 use Rattle.nr_linked.specs.BuiltIns.{built_in_class}
 use Rattle.nr_linked.specs.BuiltInTables.{built_in_info, built_in_infos, built_in_method, built_in_methods}
@@ -35,11 +30,11 @@ use Rattle.nr_linked.specs.Kinds.{class_kind}
 use Rattle.nr_linked.specs.KindTexts.{kind_desc}
 use Rattle.nr_linked.specs.Programs.{class_at, method_at}
 use Rattle.nr_linked.specs.Subtypes.{Above, IsDirectlyAbove, is_above, itself}
-use Rattle.nr_links.specs.Example.{face_method, a_info, a_init, a_loaded, a_m, a_main, a_methods, a_parts, a_pool, face_info, face_loaded, face_m, face_parts, handler, init_body, int_kind, loaded, m_body, main_body, main_map, slot, tables}
-use Rattle.nr_links.specs.Entries.{IsCaught, IsClassAs, IsFrameOf, IsMethodAs}
-use Rattle.nr_links.specs.Found.{CanCall, IsCallFound, IsMadeFound, IsSlotFound}
+use Rattle.nr_links.specs.Example.{face_method, a_info, a_init, a_loaded, a_m, a_main, a_methods, a_parts, a_pool, face_info, face_loaded, face_m, face_parts, init_body, int_kind, loaded, m_body, main_body, main_map, slot, tables}
+use Rattle.nr_links.specs.Entries.{IsClassAs, IsFrameOf, IsMethodAs}
+use Rattle.nr_links.specs.Found.{IsCallFound, IsMadeFound, IsSlotFound}
 use Rattle.nr_links.specs.Links.{Links}
-use Rattle.nr_links.specs.Named.{NamesKind, NamesMember}
+use Rattle.nr_links.specs.Named.{NamesKind}
 use Rattle.nr_links.specs.Rules.{KeepsRules, SaysKind, is_final}
 use Rattle.nr_links.proofs.ExampleTables.{linked, supers}
 use Rattle.nr_links.proofs.Listed.{AtEach, at_place, listed_all}

@@ -1,16 +1,15 @@
 -- The example's tables are laid out as those of a program.
-use Rattle.std.proofs.Common.{◌≡◌, ℕ, zero, suc, ◌<◌, true, false, List, [], ◌∷◌, ◌++◌, length, refl, sym, ap, lit<, lit≤, ◌&&◌, ◌^◌, not}
+use Rattle.std.proofs.Common.{◌≡◌, ℕ, ◌<◌, true, ◌++◌, length, refl, lit<, lit≤, ◌&&◌, ◌^◌, not}
 use Rattle.std.specs.Prelude.{Option, Some, None, IfSome, IsTrue, ◌↔◌, is_none, is_some, ◌==◌}
 use Rattle.std.specs.List.{list_all, list_any}
 use Rattle.std.specs.Option.{option_map_or}
-use Rattle.nr_linked.specs.declared.program.kind.Kind.{Kind}
 use Rattle.nr_linked.specs.declared.program.built_in.BuiltIn.TheVariants.{Object}
 use Rattle.nr_linked.specs.declared.program.tables.ClassInfo.{ClassInfo}
 use Rattle.nr_linked.specs.declared.program.tables.MethodInfo.{MethodInfo}
 use Rattle.nr_prog.specs.BodyNames.{class_text_at}
 use Rattle.nr_prog.specs.Members.{is_abstract}
 use Rattle.nr_prog.specs.Pool.{text_at}
-use Rattle.nr_linked.specs.BuiltIns.{BuiltInMethod, built_in, built_in_class}
+use Rattle.nr_linked.specs.BuiltIns.{built_in, built_in_class}
 use Rattle.nr_linked.specs.BuiltInTables.{built_in_info, built_in_infos, built_in_method, built_in_methods}
 use Rattle.nr_linked.specs.KindTexts.{signature_text}
 use Rattle.nr_linked.specs.Linked.{IsClassLinked, IsMethodLinked, IsReadAs, Linked, declared, frame_maps_of, handlers_of, inherited_slots, instrs_of, is_frame_in, is_kind_in, is_kind_in_or_none, is_loaded, is_method_of, is_resolved_in, is_slot_linked, is_super_in, own_slots}

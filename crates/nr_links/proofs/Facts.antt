@@ -1,12 +1,10 @@
 -- The tables that classes link to have the facts that typing takes of them.
-use Rattle.std.proofs.Common.{◌≡◌, ℕ, zero, suc, ◌+◌, ◌<◌, ◌≤◌, ◌⊎◌, inl, inr, Bool, true, false, List, [], ◌∷◌, length, map, refl, sym, ap, subst, ◌∙◌, arith, not, ◌&&◌, ◌||◌}
-use Rattle.std.specs.Prelude.{Option, Some, None, All, IsTrue, slice_get, ◌==◌}
-use Rattle.std.specs.List.{AllZip, list_all, list_any}
+use Rattle.std.proofs.Common.{◌≡◌, ℕ, ◌+◌, inl, inr, Bool, false, List, [], ◌∷◌, length, map, refl, sym, ap, subst, ◌∙◌, arith, not}
+use Rattle.std.specs.Prelude.{Option, Some, None, All, IsTrue, ◌==◌}
+use Rattle.std.specs.List.{AllZip, list_any}
 use Rattle.std.specs.Option.{option_and_then, option_map_or}
 use Rattle.std.proofs.lemmas.Bool.{and_from, and_parts, eq-eqb, eqb-true, ne_eqb, not_from_false, or_cases, or_from, or_left, or_right}
 use Rattle.std.proofs.lemmas.Option.{same_Some}
-use Rattle.nr_optable.specs.declared.table.Family.TheVariants.{F32, F33}
-use Rattle.nr_prog.specs.declared.body.instruction.Args.TheVariants.{Dims}
 use Rattle.nr_prog.specs.declared.body.loaded.Loaded.{Loaded}
 use Rattle.nr_prog.specs.declared.body.whole.Body.{Body}
 use Rattle.nr_prog.specs.declared.member.Code.{Code}
@@ -16,27 +14,26 @@ use Rattle.nr_prog.specs.BodyText.{BodyFor, instrs}
 use Rattle.nr_prog.specs.Members.{has_flag, is_abstract}
 use Rattle.nr_linked.specs.declared.program.built_in.BuiltIn.{BuiltIn}
 use Rattle.nr_linked.specs.declared.program.built_in.BuiltIn.TheVariants.{Object, Cloneable, Throwable, ArithmeticException, ArrayStoreException, ClassCastException, NegativeArraySizeException, NullPointerException, ArrayIndexOutOfBoundsException, IncompatibleClassChangeError, AbstractMethodError, Serializable}
-use Rattle.nr_linked.specs.declared.program.kind.Kind.{Kind}
 use Rattle.nr_linked.specs.declared.program.tables.ClassInfo.{ClassInfo}
 use Rattle.nr_linked.specs.declared.program.tables.MethodInfo.{MethodInfo}
 use Rattle.nr_linked.specs.declared.program.tables.ProgramTables.{ProgramTables}
 use Rattle.nr_linked.specs.declared.program.tables.Resolved.TheVariants as resolved
 use Rattle.nr_linked.specs.BuiltIns.{built_in, built_in_class, number}
 use Rattle.nr_linked.specs.BuiltInTables.{built_in_info, built_in_method, within_steps}
-use Rattle.nr_linked.specs.Linked.{Linked, first_built_in, first_built_in_method, instrs_of, is_resolved_in}
+use Rattle.nr_linked.specs.Linked.{Linked, first_built_in, instrs_of, is_resolved_in}
 use Rattle.nr_linked.specs.Programs.{class_at, is_interface, method_at}
 use Rattle.nr_linked.specs.Sites.{Site, site_among, site_at}
-use Rattle.nr_linked.specs.Subtypes.{admits_any, is_above, is_assignable}
+use Rattle.nr_linked.specs.Subtypes.{admits_any, is_above}
 use Rattle.nr_linked.specs.TypingFacts.{SiteFacts, TypingFacts, is_makeable, is_thrown}
 use Rattle.nr_links.specs.Found.{IsCallFound, IsFound}
 use Rattle.nr_links.specs.Links.{IsDecoded, Links}
-use Rattle.nr_links.proofs.BuiltInEntries.{BuiltInEntry, built_in_at, info_of}
+use Rattle.nr_links.proofs.BuiltInEntries.{built_in_at, info_of}
 use Rattle.nr_links.proofs.Calling.{call_facts}
 use Rattle.nr_links.proofs.Described.{built_in_facts}
-use Rattle.nr_links.proofs.Instructions.{HasText, found_at, passes_found, row_listed, shaped, text_at_site}
+use Rattle.nr_links.proofs.Instructions.{found_at, passes_found, row_listed, shaped, text_at_site}
 use Rattle.nr_links.proofs.MethodEntries.{LoadedMethod, method_cases}
-use Rattle.nr_links.proofs.Places.{get_below, passing}
-use Rattle.nr_links.proofs.Selecting.{itself_selected, own_above, selects}
+use Rattle.nr_links.proofs.Places.{passing}
+use Rattle.nr_links.proofs.Selecting.{own_above, selects}
 use Rattle.nr_links.proofs.SiteFacts.{called, constant, dimensions, elements, kind_itself, made}
 use Rattle.nr_links.proofs.SlotFacts.{any_up, declared_slot, inherited, slotted}
 use Rattle.nr_links.proofs.Upward.{above_above, entry_of_above, itself_above, super_above, up}
@@ -159,8 +156,7 @@ module _ (classes : List Loaded) (P : ProgramTables) (links : Links classes P) (
     slotted = slotted classes P links;
     makeable = makeable P links.linked;
     own = λ n i body is has. own_above P links.linked n i is;
-    selects = λ n c k i is instance shared sel. selects classes P links all n c k i is shared sel;
-    itself = itself_selected P;
+    selects = λ n c k i j is instance shared sel js. selects classes P links all n c k i j is shared sel js;
     built_ins = built_in_facts classes P links all;
     one_each = one_each;
     sites = site_facts;

@@ -1,26 +1,24 @@
 -- The instructions of a method by the text of its code: their rows and their operands.
-use Rattle.std.proofs.Common.{◌≡◌, ℕ, zero, suc, ◌+◌, ◌<◌, ◌≤◌, ◌⊎◌, inl, inr, Bool, true, false, List, [], ◌∷◌, ◌++◌, length, cond, find, refl, sym, ap, subst, ◌∙◌, arith, not, ◌&&◌, ◌||◌}
-use Rattle.std.specs.Prelude.{Option, Some, None, Contains, IsTrue, slice_get, slice_index_or, nat_eq, ◌==◌, if◌then◌else◌, ℤ}
-use Rattle.std.specs.Int.{Width, w8, w16}
+use Rattle.std.proofs.Common.{◌≡◌, ℕ, zero, suc, ◌+◌, Bool, true, false, List, [], ◌∷◌, length, cond, find, refl, sym, ap, subst, arith, not, ◌&&◌, ◌||◌}
+use Rattle.std.specs.Prelude.{Option, Some, None, Contains, IsTrue, nat_eq, ◌==◌, if◌then◌else◌}
 use Rattle.std.specs.List.{AllZip, list_all}
-use Rattle.std.proofs.lemmas.Bool.{and_parts, both_ways, eqb-true, not-true, or_cases}
+use Rattle.std.proofs.lemmas.Bool.{and_parts}
 use Rattle.std.proofs.lemmas.Option.{same_Some}
 use Rattle.nr_optable.specs.declared.table.Family.{Family}
 use Rattle.nr_optable.specs.declared.table.Family.TheVariants.{F8, F34}
 use Rattle.nr_optable.specs.declared.table.Kinds.{Kinds}
-use Rattle.nr_optable.specs.declared.table.Kinds.TheVariants.{Own, Letters}
-use Rattle.nr_optable.specs.declared.table.Letter.{Letter}
+use Rattle.nr_optable.specs.declared.table.Kinds.TheVariants.{Letters}
 use Rattle.nr_optable.specs.declared.table.Letter.TheVariants.{I, J}
 use Rattle.nr_optable.specs.declared.table.Row.{Row}
 use Rattle.nr_optable.specs.declared.table.Shape.{Shape}
 use Rattle.nr_optable.specs.declared.table.Shape.TheVariants.{Plain, L1, S1, S2, P1, P2, B2, B4, Inc as IncShape, Prim as PrimShape, Itf, Mul, Tab, Look as LookShape, Wide as WideShape}
 use Rattle.nr_optable.specs.Rows.{all_rows}
 use Rattle.nr_prog.specs.declared.body.instruction.Args.{Args}
-use Rattle.nr_prog.specs.declared.body.instruction.Args.TheVariants.{Empty, Local, Num, Pool, Branch, Inc, Prim, Dims, Switch, Look, Wide, WideInc}
+use Rattle.nr_prog.specs.declared.body.instruction.Args.TheVariants.{Pool, Prim, Dims}
 use Rattle.nr_prog.specs.declared.body.instruction.Instr.{Instr}
 use Rattle.nr_prog.specs.declared.pool.PoolEntry.{PoolEntry}
 use Rattle.nr_prog.specs.BodyNames.{IsArrayOf, IsUsed, NamesClassBy}
-use Rattle.nr_prog.specs.BodyOperands.{index_of, operands, row_of, shape_of, widened}
+use Rattle.nr_prog.specs.BodyOperands.{operands, shape_of, widened}
 use Rattle.nr_prog.specs.BodyText.{IsInstr, instrs}
 use Rattle.nr_linked.specs.declared.program.tables.Resolved.{Resolved}
 use Rattle.nr_linked.specs.Sites.{Site, first_offset, site_among}

@@ -1,7 +1,7 @@
 -- Elements of lists, by tests and by places.
-use Rattle.std.proofs.Common.{◌≡◌, ℕ, zero, suc, ◌+◌, ◌<◌, ◌⊎◌, inl, inr, Bool, true, false, List, [], ◌∷◌, ◌++◌, length, refl, sym, subst, arith, ◌&&◌, ◌||◌}
-use Rattle.std.specs.Prelude.{Option, Some, None, IsTrue, slice_get, slice_index_or, Contains, ◌==◌, nat_lt}
-use Rattle.std.specs.List.{list_any, list_all, flat_map}
+use Rattle.std.proofs.Common.{◌≡◌, ℕ, zero, suc, ◌<◌, ◌⊎◌, inl, inr, Bool, true, List, [], ◌∷◌, ◌++◌, sym, subst, arith, ◌&&◌}
+use Rattle.std.specs.Prelude.{Some, IsTrue, slice_get, Contains, ◌==◌}
+use Rattle.std.specs.List.{list_any, list_all}
 use Rattle.std.proofs.lemmas.Bool.{and_parts, eq-eqb, eqb-true, or_cases, or_left, or_right}
 
 -- ---- numbers in a list

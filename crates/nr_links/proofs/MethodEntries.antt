@@ -1,29 +1,22 @@
 -- The methods of a program: each comes from a class file, or is one of the built-in classes.
-use Rattle.std.proofs.Common.{◌≡◌, ℕ, zero, suc, ◌+◌, ◌-◌, ◌<◌, ◌≤◌, ◌⊎◌, inl, inr, Bool, true, false, List, [], ◌∷◌, length, map, take, refl, sym, ap, subst, ◌∙◌, arith, not, ◌&&◌, ◌||◌, lit≤}
-use Rattle.std.specs.Prelude.{Option, Some, None, All, IsTrue, slice_get, nat_eq, codes, ◌==◌}
-use Rattle.std.specs.List.{AllByRecursion, flat_map, list_all, range_with_len}
+use Rattle.std.proofs.Common.{◌≡◌, ℕ, zero, suc, ◌+◌, ◌<◌, ◌⊎◌, inl, inr, false, List, [], ◌∷◌, map, take, refl, sym, ap, subst, ◌∙◌, arith}
+use Rattle.std.specs.Prelude.{Option, Some, All, IsTrue, slice_get, ◌==◌}
+use Rattle.std.specs.List.{flat_map, range_with_len}
 use Rattle.std.specs.Option.{option_map, option_map_or}
-use Rattle.std.specs.Str.{bytes_eq}
-use Rattle.std.proofs.lemmas.Bool.{and_parts, cases_lt, eqb-true, or_cases}
+use Rattle.std.proofs.lemmas.Bool.{cases_lt, eqb-true}
 use Rattle.std.proofs.lemmas.Option.{get_or_from_slice_get, same_Some, slice_get-map, slice_get_within}
-use Rattle.nr_base.specs.declared.desc.types.MethodDesc.{MethodDesc}
-use Rattle.nr_base.specs.Descs.{method_desc}
 use Rattle.nr_prog.specs.declared.body.loaded.Loaded.{Loaded}
 use Rattle.nr_prog.specs.declared.body.whole.Body.{Body}
 use Rattle.nr_prog.specs.declared.member.Method.{Method}
 use Rattle.nr_prog.specs.declared.parts.ClassParts.{ClassParts}
 use Rattle.nr_prog.specs.declared.pool.PoolEntry.{PoolEntry}
 use Rattle.nr_prog.specs.BodyText.{BodyFor, EachBody}
-use Rattle.nr_prog.specs.Form.{IsFormed, IsMethodFormed}
+use Rattle.nr_prog.specs.Form.{IsMethodFormed}
 use Rattle.nr_prog.specs.Pool.{text_at}
-use Rattle.nr_linked.specs.declared.program.built_in.BuiltIn.{BuiltIn}
 use Rattle.nr_linked.specs.declared.program.tables.ClassInfo.{ClassInfo}
 use Rattle.nr_linked.specs.declared.program.tables.MethodInfo.{MethodInfo}
 use Rattle.nr_linked.specs.declared.program.tables.ProgramTables.{ProgramTables}
-use Rattle.nr_linked.specs.BuiltIns.{BuiltInMethod, built_in_class, built_in_count, number}
-use Rattle.nr_linked.specs.BuiltInTables.{built_in_method}
-use Rattle.nr_linked.specs.KindTexts.{kind_desc}
-use Rattle.nr_linked.specs.Linked.{Linked, Texts, built_in_method_count, first_built_in, first_built_in_method, is_method_of, method_texts, read_texts}
+use Rattle.nr_linked.specs.Linked.{Texts, is_method_of, method_texts, read_texts}
 use Rattle.nr_linked.specs.Programs.{class_at, method_at, methods_of}
 use Rattle.nr_links.specs.Entries.{IsMethodAs, method_count}
 use Rattle.nr_links.specs.Links.{IsDecoded, Links}

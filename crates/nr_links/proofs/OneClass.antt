@@ -1,9 +1,9 @@
 -- Two programs that the same classes link to have the same entries of classes.
-use Rattle.std.proofs.Common.{◌≡◌, ℕ, zero, suc, ◌+◌, ◌-◌, ◌<◌, ◌≤◌, ◌⊎◌, inl, inr, Bool, true, false, List, [], ◌∷◌, ◌++◌, length, map, drop, take, refl, sym, ap, subst, ◌∙◌, arith, not, ◌&&◌, ◌||◌}
-use Rattle.std.specs.Prelude.{Option, Some, None, All, Contains, IsTrue, IsSomeAnd, slice_get, nat_lt, ◌==◌, is_none}
-use Rattle.std.specs.List.{filter, list_all, list_any, range_with_len}
+use Rattle.std.proofs.Common.{◌≡◌, ℕ, zero, suc, ◌+◌, ◌<◌, ◌⊎◌, inl, inr, Bool, true, false, List, [], ◌∷◌, ◌++◌, length, map, refl, sym, ap, subst, ◌∙◌, arith, ◌||◌}
+use Rattle.std.specs.Prelude.{Option, Some, None, Contains, IsTrue, slice_get, nat_lt, ◌==◌}
+use Rattle.std.specs.List.{list_all, list_any, range_with_len}
 use Rattle.std.specs.Option.{option_and_then, option_map, option_map_or}
-use Rattle.std.proofs.lemmas.Bool.{and_from, and_parts, both_ways, cases_Bool, cases_order, eqb-true, eq-eqb, false_from_ne_true, ltb-true, lt-ltb, or_cases, or_left, or_right}
+use Rattle.std.proofs.lemmas.Bool.{and_from, and_parts, both_ways, cases_Bool, eqb-true, eq-eqb, false_from_ne_true, ltb-true, lt-ltb, or_cases, or_left, or_right}
 use Rattle.std.proofs.lemmas.List.{length-map}
 use Rattle.std.proofs.lemmas.List.FromFn.{length-range_with_len}
 use Rattle.std.proofs.lemmas.Option.{get_or_from_slice_get, same_Some, slice_get_within}
@@ -16,16 +16,16 @@ use Rattle.nr_linked.specs.declared.program.tables.ClassInfo.{ClassInfo}
 use Rattle.nr_linked.specs.declared.program.tables.ProgramTables.{ProgramTables}
 use Rattle.nr_linked.specs.declared.program.tables.SlotInfo.{SlotInfo}
 use Rattle.nr_linked.specs.BuiltIns.{built_in}
-use Rattle.nr_linked.specs.KindTexts.{class_name, kind_desc, kind_text}
-use Rattle.nr_linked.specs.Linked.{IsReadAs, Linked, field_texts, first_built_in, inherited_slots, is_class_in, is_kind_in, is_loaded, is_slot_linked, is_super_in, method_texts, own_slots, read_texts, slot_texts}
-use Rattle.nr_linked.specs.Programs.{class_at, is_interface, methods_of, super_of, superclasses, upward}
+use Rattle.nr_linked.specs.KindTexts.{class_name, kind_desc}
+use Rattle.nr_linked.specs.Linked.{Linked, inherited_slots, is_class_in, is_kind_in, is_loaded, is_slot_linked, is_super_in, method_texts, own_slots, read_texts, slot_texts}
+use Rattle.nr_linked.specs.Programs.{class_at, is_interface, methods_of, super_of, upward}
 use Rattle.nr_linked.specs.Slots.{slots_of}
-use Rattle.nr_linked.specs.Subtypes.{Above, IsDirectlyAbove, further, is_above, itself}
-use Rattle.nr_links.specs.Entries.{IsClassAs, is_rising, method_count}
+use Rattle.nr_linked.specs.Subtypes.{Above, IsDirectlyAbove, further, itself}
+use Rattle.nr_links.specs.Entries.{is_rising}
 use Rattle.nr_links.specs.Links.{Links}
 use Rattle.nr_links.proofs.Descriptors.{one_class, one_desc, one_kind}
 use Rattle.nr_links.proofs.Listed.{is_listed, listed_all}
-use Rattle.nr_links.proofs.OneNames.{Twins, back, class_back, kind_back, loaded_there, same_count, same_descs, same_first, same_list, same_names, same_options, same_past_classes, there, twins}
+use Rattle.nr_links.proofs.OneNames.{class_back, kind_back, same_descs, same_names, same_past_classes, there, twins}
 use Rattle.nr_links.proofs.Places.{get_below, get_dropped, passes_at, passing, some_of}
 use Rattle.nr_links.proofs.SlotFacts.{not_loaded, super_in}
 use Rattle.nr_links.proofs.Upward.{down, step_of, up}
@@ -215,7 +215,7 @@ module _ (classes : List Loaded) (P Q : ProgramTables) (L : Links classes P) (M 
         let b = there classes P Q L M s.0 a.0 a.1 in
         let onward = subst (λ o. IsTrue (list_any (λ d. d == built_in P Object) (upward P n o))) (ap (option_and_then (λ (e : ClassInfo). e.super_class)) is ∙ s.1) (past_head (c == built_in P Object) apart ends) in
         let rest = slots_from n s.0 onward a.0 b.0 a.1 b.1 in
-      joined e f (same_inherited s.0 e f a.0 b.0 s.1 (sym t.super_class ∙ s.1) a.1 b.1 rest) (one_own c e f is js p) (L.linked.classes c e is).inherited (M.linked.classes c f js).inherited
+        joined e f (same_inherited s.0 e f a.0 b.0 s.1 (sym t.super_class ∙ s.1) a.1 b.1 rest) (one_own c e f is js p) (L.linked.classes c e is).inherited (M.linked.classes c f js).inherited
   ]
     where
       past_head : (b : Bool) → b ≡ false → (b || list_any (λ d. d == built_in P Object) (upward P n (super_of P c))) ≡ true → IsTrue (list_any (λ d. d == built_in P Object) (upward P n (super_of P c)))

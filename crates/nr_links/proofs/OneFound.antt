@@ -1,16 +1,14 @@
 -- In two programs with one table of classes the same is found for an instruction, a handler and a frame map.
-use Rattle.std.proofs.Common.{◌≡◌, ℕ, zero, suc, ◌+◌, ◌-◌, ◌<◌, ◌≤◌, ◌⊎◌, inl, inr, Bool, true, false, find, List, [], ◌∷◌, ◌++◌, length, map, take, refl, sym, ap, subst, ◌∙◌, arith, ◌&&◌}
-use Rattle.std.specs.Prelude.{Option, Some, None, All, IsTrue, IsSomeAnd, slice_get, ◌==◌}
-use Rattle.std.specs.List.{AllZip, flat_map, list_all, list_any}
-use Rattle.std.specs.Option.{option_map, option_map_or}
+use Rattle.std.proofs.Common.{◌≡◌, ℕ, inl, inr, false, find, List, refl, sym, ap, subst, ◌∙◌, arith, ◌&&◌}
+use Rattle.std.specs.Prelude.{Option, Some, None, All, IsSomeAnd}
+use Rattle.std.specs.List.{flat_map}
+use Rattle.std.specs.Option.{option_map_or}
 use Rattle.std.specs.Str.{bytes_eq}
-use Rattle.std.proofs.lemmas.Bool.{and_parts, cases_lt}
-use Rattle.std.proofs.lemmas.Option.{same_Some, slice_get_within}
+use Rattle.std.proofs.lemmas.Bool.{cases_lt}
+use Rattle.std.proofs.lemmas.Option.{same_Some}
 use Rattle.nr_base.specs.declared.desc.types.Desc.{Desc}
 use Rattle.nr_optable.specs.declared.table.Family.{Family}
 use Rattle.nr_optable.specs.declared.table.Family.TheVariants.{F8, F30, F31, F32, F33, F34, F37}
-use Rattle.nr_prog.specs.declared.body.frame_map.FrameMap.{FrameMap}
-use Rattle.nr_prog.specs.declared.body.frame_map.MapType.TheVariants as map_types
 use Rattle.nr_prog.specs.declared.body.instruction.Instr.{Instr}
 use Rattle.nr_prog.specs.declared.body.loaded.Loaded.{Loaded}
 use Rattle.nr_prog.specs.declared.member.Handler.{Handler}
@@ -24,20 +22,14 @@ use Rattle.nr_linked.specs.declared.program.tables.MethodInfo.{MethodInfo}
 use Rattle.nr_linked.specs.declared.program.tables.ProgramTables.{ProgramTables}
 use Rattle.nr_linked.specs.declared.program.tables.Resolved.{Resolved}
 use Rattle.nr_linked.specs.declared.program.tables.Resolved.TheVariants as resolved
-use Rattle.nr_linked.specs.declared.program.types.VFrame.{VFrame}
-use Rattle.nr_linked.specs.declared.program.types.VType.{VType}
-use Rattle.nr_linked.specs.declared.program.types.VType.TheVariants.{Top, Int, Long as LongType, Null, UninitThis, Uninit, Class}
 use Rattle.nr_linked.specs.Kinds.{class_kind}
 use Rattle.nr_linked.specs.KindTexts.{kind_desc}
-use Rattle.nr_linked.specs.Linked.{first_built_in_method, is_frame_in, is_kind_in, is_kind_in_or_none, is_type_in}
-use Rattle.nr_linked.specs.Programs.{method_at, methods_of}
+use Rattle.nr_linked.specs.Programs.{methods_of}
 use Rattle.nr_linked.specs.Selection.{is_called}
-use Rattle.nr_linked.specs.TypingCalls.{is_uninit_this}
-use Rattle.nr_linked.specs.TypingFrames.{in_places}
-use Rattle.nr_links.specs.Entries.{IsCaught, IsFrameOf, map_type, method_count}
-use Rattle.nr_links.specs.Found.{IsCallFound, IsConstantFound, IsFieldFound, IsFound, IsFoundAt, IsFoundBy, IsKindFound, IsMadeFound, IsMethodFound, IsSlotFound, index_in}
+use Rattle.nr_links.specs.Entries.{IsCaught, method_count}
+use Rattle.nr_links.specs.Found.{IsCallFound, IsConstantFound, IsFieldFound, IsFound, IsFoundAt, IsFoundBy, IsKindFound, IsMethodFound, IsSlotFound, index_in}
 use Rattle.nr_links.specs.Links.{IsDecoded, Links}
-use Rattle.nr_links.specs.Named.{NamesKind, NamesMember, name_text_at}
+use Rattle.nr_links.specs.Named.{NamesKind}
 use Rattle.nr_links.specs.Resolution.{class_with_members, classes_for, is_called_at, resolved_method, resolved_slot}
 use Rattle.nr_links.proofs.Descriptors.{one_desc, one_kind}
 use Rattle.nr_links.proofs.MethodEntries.{method_from, stand}

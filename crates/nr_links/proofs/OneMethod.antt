@@ -1,30 +1,25 @@
 -- Two programs with one table of classes that the same classes link to have one table of methods.
-use Rattle.std.proofs.Common.{◌≡◌, ℕ, zero, suc, ◌+◌, ◌-◌, ◌<◌, ◌≤◌, ◌⊎◌, inl, inr, Bool, true, false, List, [], ◌∷◌, length, map, take, refl, sym, ap, subst, ◌∙◌, arith, ◌&&◌}
-use Rattle.std.specs.Prelude.{Option, Some, None, All, IsTrue, slice_get}
+use Rattle.std.proofs.Common.{◌≡◌, ℕ, ◌<◌, inl, inr, Bool, List, [], ◌∷◌, map, refl, sym, ap, subst, ◌∙◌, arith}
+use Rattle.std.specs.Prelude.{Some, All, IsTrue}
 use Rattle.std.specs.List.{AllZip, list_all, list_any}
-use Rattle.std.specs.Option.{option_map, option_map_or}
+use Rattle.std.specs.Option.{option_map_or}
 use Rattle.std.proofs.lemmas.Bool.{and_from, and_parts, cases_lt}
-use Rattle.std.proofs.lemmas.Option.{same_Some, slice_get_within}
+use Rattle.std.proofs.lemmas.Option.{same_Some}
 use Rattle.nr_base.specs.declared.desc.types.Desc.{Desc}
 use Rattle.nr_base.specs.declared.desc.types.MethodDesc.{MethodDesc}
 use Rattle.nr_base.specs.Descs.{method_desc}
 use Rattle.nr_prog.specs.declared.body.frame_map.FrameMap.{FrameMap}
-use Rattle.nr_prog.specs.declared.body.frame_map.MapType.{MapType}
 use Rattle.nr_prog.specs.declared.body.frame_map.MapType.TheVariants as map_types
-use Rattle.nr_prog.specs.declared.body.instruction.Instr.{Instr}
 use Rattle.nr_prog.specs.declared.body.loaded.Loaded.{Loaded}
 use Rattle.nr_prog.specs.declared.body.whole.Body.{Body}
-use Rattle.nr_prog.specs.declared.member.Handler.{Handler}
-use Rattle.nr_linked.specs.declared.program.kind.Kind.{Kind}
 use Rattle.nr_linked.specs.declared.program.tables.ClassInfo.{ClassInfo}
 use Rattle.nr_linked.specs.declared.program.tables.MethodInfo.{MethodInfo}
 use Rattle.nr_linked.specs.declared.program.tables.ProgramTables.{ProgramTables}
-use Rattle.nr_linked.specs.declared.program.tables.Resolved.{Resolved}
 use Rattle.nr_linked.specs.declared.program.types.VFrame.{VFrame}
 use Rattle.nr_linked.specs.declared.program.types.VType.{VType}
 use Rattle.nr_linked.specs.declared.program.types.VType.TheVariants.{Top, Int, Long, Null, UninitThis, Uninit, Class}
 use Rattle.nr_linked.specs.KindTexts.{kind_desc}
-use Rattle.nr_linked.specs.Linked.{first_built_in_method, frame_maps_of, handlers_of, instrs_of, is_frame_in, is_kind_in, is_kind_in_or_none, is_type_in}
+use Rattle.nr_linked.specs.Linked.{frame_maps_of, handlers_of, instrs_of, is_frame_in, is_type_in}
 use Rattle.nr_linked.specs.Programs.{method_at}
 use Rattle.nr_linked.specs.TypingCalls.{is_uninit_this}
 use Rattle.nr_linked.specs.TypingFrames.{in_places}

@@ -1,28 +1,25 @@
 -- Two programs that the same classes link to have the same names at the same numbers.
-use Rattle.std.proofs.Common.{◌≡◌, ℕ, zero, suc, ◌+◌, ◌-◌, ◌<◌, ◌≤◌, ◌⊎◌, inl, inr, Bool, true, false, List, [], ◌∷◌, ◌++◌, length, map, drop, refl, sym, ap, subst, ◌∙◌, arith, not, ◌&&◌, ◌||◌}
-use Rattle.std.specs.Prelude.{Option, Some, None, IsTrue, slice_get, nat_lt, ◌==◌}
-use Rattle.std.specs.List.{list_all}
-use Rattle.std.specs.Option.{option_map, option_map_or}
-use Rattle.std.proofs.lemmas.Bool.{and_parts, cases_Bool, cases_lt, ltb-false, ltb-true, lt-ltb, le-ltb}
+use Rattle.std.proofs.Common.{◌≡◌, ℕ, suc, ◌+◌, ◌-◌, ◌≤◌, inl, inr, true, false, List, [], ◌∷◌, length, drop, refl, sym, ap, subst, ◌∙◌, arith}
+use Rattle.std.specs.Prelude.{Option, Some, None, IsTrue, slice_get, nat_lt}
+use Rattle.std.specs.Option.{option_map_or}
+use Rattle.std.proofs.lemmas.Bool.{cases_Bool, ltb-false, ltb-true}
 use Rattle.std.proofs.lemmas.Option.{same_Some, slice_get_within}
-use Rattle.nr_base.specs.declared.desc.types.Desc.{Desc}
 use Rattle.nr_base.specs.declared.desc.types.DescBase.{DescBase}
 use Rattle.nr_prog.specs.declared.body.loaded.Loaded.{Loaded}
 use Rattle.nr_linked.specs.declared.program.kind.Base.{Base}
 use Rattle.nr_linked.specs.declared.program.kind.Base.TheVariants.{Bool as BoolBase, Byte, Char, Short, Int, Long, Object}
 use Rattle.nr_linked.specs.declared.program.kind.Kind.{Kind}
 use Rattle.nr_linked.specs.declared.program.tables.ClassInfo.{ClassInfo}
-use Rattle.nr_linked.specs.declared.program.tables.MethodInfo.{MethodInfo}
 use Rattle.nr_linked.specs.declared.program.tables.ProgramTables.{ProgramTables}
 use Rattle.nr_linked.specs.BuiltInTables.{built_in_infos, built_in_methods}
 use Rattle.nr_linked.specs.KindTexts.{base_desc, class_name, kind_desc}
-use Rattle.nr_linked.specs.Linked.{IsReadAs, first_built_in, first_built_in_method, is_class_in, is_kind_in, is_kind_in_or_none, is_loaded}
+use Rattle.nr_linked.specs.Linked.{IsReadAs, first_built_in, first_built_in_method, is_class_in, is_kind_in, is_loaded}
 use Rattle.nr_linked.specs.Kinds.{class_in}
-use Rattle.nr_linked.specs.Programs.{class_at, is_interface, method_at}
+use Rattle.nr_linked.specs.Programs.{class_at, method_at}
 use Rattle.nr_links.specs.Links.{Links}
 use Rattle.nr_links.proofs.Descriptors.{name_of}
 use Rattle.nr_links.proofs.Places.{get_below, get_dropped}
-use Rattle.nr_links.proofs.SlotFacts.{LoadedEntry, below_loaded, loaded_entry}
+use Rattle.nr_links.proofs.SlotFacts.{loaded_entry}
 
 -- ---- lists
 

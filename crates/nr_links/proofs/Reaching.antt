@@ -1,5 +1,5 @@
 -- What stands above a class, step by step, and by a check of all classes of a program.
-use Rattle.std.proofs.Common.{◌≡◌, ℕ, zero, suc, ◌<◌, ◌⊎◌, inl, inr, Bool, true, false, List, [], ◌∷◌, ◌++◌, length, refl, sym, subst, arith, ◌&&◌}
+use Rattle.std.proofs.Common.{◌≡◌, ℕ, zero, suc, ◌<◌, ◌⊎◌, inl, inr, Bool, false, List, [], ◌∷◌, ◌++◌, refl, subst, ◌&&◌}
 use Rattle.std.specs.Prelude.{Option, Some, None, IsTrue, Contains, ◌==◌, ◌↔◌, nat_lt}
 use Rattle.std.specs.List.{list_any, list_all, flat_map}
 use Rattle.std.specs.Option.{IsSomeAnd, option_map_or, option_to_list}

@@ -1,13 +1,12 @@
 -- The method that is selected for a call.
-use Rattle.std.proofs.Common.{◌≡◌, ℕ, zero, suc, ◌<◌, ◌⊎◌, inl, inr, Bool, true, false, List, [], ◌∷◌, length, find, cond, refl, sym, ap, subst, ◌∙◌, arith, not, ◌&&◌, ◌||◌}
-use Rattle.std.specs.Prelude.{Option, Some, None, All, IsTrue, slice_get, is_some, ◌==◌, if◌then◌else◌}
-use Rattle.std.specs.List.{flat_map, list_all, range_with_len}
+use Rattle.std.proofs.Common.{◌≡◌, ℕ, Bool, true, false, List, [], find, cond, refl, sym, ap, subst, ◌∙◌, not}
+use Rattle.std.specs.Prelude.{Option, Some, None, All, IsTrue, slice_get, ◌==◌, if◌then◌else◌}
+use Rattle.std.specs.List.{range_with_len}
 use Rattle.std.specs.Option.{option_and_then, option_map_or}
 use Rattle.std.specs.Str.{bytes_eq}
-use Rattle.std.proofs.lemmas.Bool.{and_parts, eqb-true, not-true}
+use Rattle.std.proofs.lemmas.Bool.{and_parts, eqb-true}
 use Rattle.std.proofs.lemmas.Option.{same_Some}
 use Rattle.nr_prog.specs.declared.body.loaded.Loaded.{Loaded}
-use Rattle.nr_prog.specs.declared.body.whole.Body.{Body}
 use Rattle.nr_prog.specs.Members.{is_static}
 use Rattle.nr_linked.specs.declared.program.tables.ClassInfo.{ClassInfo}
 use Rattle.nr_linked.specs.declared.program.tables.MethodInfo.{MethodInfo}
@@ -15,7 +14,7 @@ use Rattle.nr_linked.specs.declared.program.tables.ProgramTables.{ProgramTables}
 use Rattle.nr_linked.specs.Linked.{Linked, is_method_of}
 use Rattle.nr_linked.specs.Programs.{class_at, method_at, methods_of, superclasses}
 use Rattle.nr_linked.specs.Selection.{can_select, first_selected, has_body, is_called, is_private, is_selectable, methods_upward, selected, with_body}
-use Rattle.nr_linked.specs.Subtypes.{Above, is_above}
+use Rattle.nr_linked.specs.Subtypes.{is_above}
 use Rattle.nr_linked.specs.TypingFacts.{Selected}
 use Rattle.nr_links.specs.Links.{IsDecoded, Links}
 use Rattle.nr_links.proofs.Described.{same_bytes, same_signature}
@@ -52,64 +51,36 @@ own_above P linked n i is =
 
 -- ---- what a selection finds
 
-pub record Picked (P : ProgramTables) (n c k : ℕ) (i : MethodInfo) : Type 0 where
-  pub first : first_selected P n i c ≡ Some k
-  pub method : MethodInfo
-  pub is_method : method_at P k ≡ Some method
-  pub body : Body
-  pub is_body : method.body ≡ Some body
-
-body_of : (o : Option Body) → IsTrue (is_some o) → (b : Body) × (o ≡ Some b)
-body_of None p = absurd cc
-body_of (Some b) p = (b, refl)
-
-picked : (P : ProgramTables) (n c k : ℕ) (i : MethodInfo) → method_at P n ≡ Some i → selected P n c ≡ Some k → Picked P n c k i
-picked P n c k i is sel = of_first (first_selected P n i c) refl (sym (ap (option_and_then (λ i. option_and_then (with_body P) (first_selected P n i c))) is) ∙ sel)
+-- the method is the first that can be selected
+first_is : (P : ProgramTables) (n c k : ℕ) (i : MethodInfo) → method_at P n ≡ Some i → selected P n c ≡ Some k → first_selected P n i c ≡ Some k
+first_is P n c k i is sel = of_first (first_selected P n i c) (sym (ap (option_and_then (λ i. option_and_then (with_body P) (first_selected P n i c))) is) ∙ sel)
   where
-    with_test : (m : ℕ) (b : Bool) → has_body P m ≡ b → (if b then Some m else None) ≡ Some k → IsTrue (has_body P k) × (m ≡ k)
-    with_test m true t e = (subst (λ m. IsTrue (has_body P m)) (same_Some m k e) t, same_Some m k e)
-    with_test m false t e = absurd cc
+    with_test : (m : ℕ) (b : Bool) → (if b then Some m else None) ≡ Some k → Some m ≡ Some k
+    with_test m true e = e
+    with_test m false e = absurd cc
 
-    of_first : (o : Option ℕ) → first_selected P n i c ≡ o → option_and_then (with_body P) o ≡ Some k → Picked P n c k i
-    of_first None first e = absurd cc
-    of_first (Some m) first e =
-        let t = with_test m (has_body P m) refl e in
-        let r = passing (λ (i : MethodInfo). is_some i.body) (method_at P k) t.0 in
-        let b = body_of r.0.body r.2 in
-        record { first = first ∙ ap (λ m. Some m) t.1; method = r.0; is_method = r.1; body = b.0; is_body = b.1 }
-
--- a private method is selected itself, with code
-pub itself_selected : (P : ProgramTables) (n c k : ℕ) (i : MethodInfo) → method_at P n ≡ Some i → IsTrue (is_private i.flags) → selected P n c ≡ Some k → (k ≡ n) × (body : Body) × (i.body ≡ Some body)
-itself_selected P n c k i is private sel =
-    let p = picked P n c k i is sel in
-    let same = same_Some n k (sym (ap (λ b. cond b (Some n) (find (can_select P i.name i.desc) (methods_upward P c))) private) ∙ p.first) in
-    let method = same_Some i p.method (sym is ∙ ap (method_at P) same ∙ p.is_method) in
-    (sym same, p.body, ap (λ (i : MethodInfo). i.body) method ∙ p.is_body)
+    of_first : (o : Option ℕ) → option_and_then (with_body P) o ≡ Some k → o ≡ Some k
+    of_first None e = absurd cc
+    of_first (Some m) e = with_test m (has_body P m) e
 
 module _ (classes : List Loaded) (P : ProgramTables) (links : Links classes P) (all : All IsDecoded classes) where
-  pub selects : (n c k : ℕ) (i : MethodInfo) → method_at P n ≡ Some i → is_private i.flags ≡ false → selected P n c ≡ Some k → Selected P i c k
-  selects n c k i is shared sel =
-      let p = picked P n c k i is sel in
-      let first = sym (ap (λ b. cond b (Some n) (find (can_select P i.name i.desc) (methods_upward P c))) shared) ∙ p.first in
+  pub selects : (n c k : ℕ) (i j : MethodInfo) → method_at P n ≡ Some i → is_private i.flags ≡ false → selected P n c ≡ Some k → method_at P k ≡ Some j → Selected P i c j
+  selects n c k i j is shared sel js =
+      let first = sym (ap (λ b. cond b (Some n) (find (can_select P i.name i.desc) (methods_upward P c))) shared) ∙ first_is P n c k i is sel in
       let f = found (can_select P i.name i.desc) (methods_upward P c) k first in
       let where_ = get_flat (methods_of P) (superclasses P c) f.1.0 k f.1.1 in
       let h = held P links.linked where_.1 where_.2 k where_.4 in
       let up = superclass_above P c where_.0 where_.1 where_.3 in
       let e = has_entry P c where_.1 h.entry up h.is_entry in
-      let same = same_Some h.method p.method (sym h.is_method ∙ p.is_method) in
+      let same = same_Some h.method j (sym h.is_method ∙ js) in
       let t = passing (is_selectable i.name i.desc) (method_at P k) f.0 in
-      let test = subst (λ j. IsTrue (is_selectable i.name i.desc j)) (same_Some t.0 p.method (sym t.1 ∙ p.is_method)) t.2 in
-      let a = and_parts (not (is_static p.method.flags)) _ test in
-      let b = and_parts (not (is_private p.method.flags)) (is_called i.name i.desc p.method) a.1 in
-      let d = and_parts (bytes_eq p.method.name i.name) (bytes_eq p.method.desc i.desc) b.1 in
-      let s = same_signature classes P links all n k i p.method is p.is_method (sym (same_bytes p.method.desc i.desc d.1)) in
+      let test = subst (λ j. IsTrue (is_selectable i.name i.desc j)) (same_Some t.0 j (sym t.1 ∙ js)) t.2 in
+      let a = and_parts (not (is_static j.flags)) _ test in
+      let b = and_parts (not (is_private j.flags)) (is_called i.name i.desc j) a.1 in
+      let d = and_parts (bytes_eq j.name i.name) (bytes_eq j.desc i.desc) b.1 in
+      let s = same_signature classes P links all n k i j is js (sym (same_bytes j.desc i.desc d.1)) in
       record {
-        method = p.method;
-        body = p.body;
-        is_method = p.is_method;
-        is_body = p.is_body;
         above = subst (λ d. IsTrue (is_above P c d)) (sym h.own ∙ ap (λ (j : MethodInfo). j.«class») same) (down P links.linked c where_.1 e.0 e.1 up);
-        instance = not-true (is_static p.method.flags) a.0;
         params = s.0;
         result = s.1;
       }

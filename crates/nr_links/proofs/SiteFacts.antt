@@ -1,36 +1,32 @@
 -- Each instruction has the facts that typing takes of it.
-use Rattle.std.proofs.Common.{◌≡◌, ℕ, zero, suc, ◌+◌, ◌<◌, ◌≤◌, ◌⊎◌, inl, inr, Bool, true, false, List, [], ◌∷◌, ◌++◌, length, replicate, refl, sym, ap, subst, ◌∙◌, arith, not, cond, ◌&&◌, ◌||◌, T}
-use Rattle.std.specs.Prelude.{Option, Some, None, All, Contains, IsTrue, IsSomeAnd, slice_get, nat_eq, nat_lt, ◌==◌}
-use Rattle.std.specs.List.{AllZip, list_all}
-use Rattle.std.specs.Option.{option_and_then, option_map_or}
-use Rattle.std.proofs.lemmas.Bool.{and_parts, both_ways, eqb-true, ltb-true, or_cases, or_right}
+use Rattle.std.proofs.Common.{◌≡◌, ℕ, zero, suc, ◌≤◌, inl, inr, true, false, List, [], ◌∷◌, ◌++◌, length, replicate, refl, sym, ap, subst, ◌∙◌, arith}
+use Rattle.std.specs.Prelude.{Option, Some, None, IsTrue, IsSomeAnd}
+use Rattle.std.specs.Option.{option_map_or}
+use Rattle.std.proofs.lemmas.Bool.{eqb-true, ltb-true, or_right}
 use Rattle.std.proofs.lemmas.Option.{same_Some}
 use Rattle.nr_base.specs.LegalNames.{class_from}
 use Rattle.nr_base.specs.declared.desc.types.Desc.{Desc}
-use Rattle.nr_base.specs.Descs.{base_text, desc, desc_text}
+use Rattle.nr_base.specs.Descs.{base_text, desc}
 use Rattle.nr_base.proofs.ClassNames.{class_only}
 use Rattle.nr_optable.specs.declared.table.Family.{Family}
-use Rattle.nr_optable.specs.declared.table.Family.TheVariants.{F8, F30, F31, F32, F33, F34, F37}
+use Rattle.nr_optable.specs.declared.table.Family.TheVariants.{F8, F32, F33, F34}
 use Rattle.nr_optable.specs.declared.table.Kinds.{Kinds}
-use Rattle.nr_optable.specs.declared.table.Kinds.TheVariants.{Own, Letters}
+use Rattle.nr_optable.specs.declared.table.Kinds.TheVariants.{Letters}
 use Rattle.nr_optable.specs.declared.table.Letter.{Letter}
 use Rattle.nr_optable.specs.declared.table.Letter.TheVariants.{I, J}
 use Rattle.nr_optable.specs.declared.table.Row.{Row}
-use Rattle.nr_optable.specs.declared.table.Shape.TheVariants.{Mul}
 use Rattle.nr_optable.specs.Rows.{all_rows}
-use Rattle.nr_prog.specs.declared.body.instruction.Args.{Args}
-use Rattle.nr_prog.specs.declared.body.instruction.Args.TheVariants.{Dims, Pool}
+use Rattle.nr_prog.specs.declared.body.instruction.Args.TheVariants.{Dims}
 use Rattle.nr_prog.specs.declared.body.instruction.Instr.{Instr}
 use Rattle.nr_prog.specs.declared.pool.PoolEntry.{PoolEntry}
-use Rattle.nr_prog.specs.declared.pool.PoolEntry.TheVariants.{FieldRef, Integer, InterfaceMethodRef, Long, MethodRef}
-use Rattle.nr_prog.specs.BodyNames.{IsArrayOf, IsClassOf, IsComponent, IsConstant, IsUsed, class_text_at, is_of_long, object}
+use Rattle.nr_prog.specs.declared.pool.PoolEntry.TheVariants.{Integer, InterfaceMethodRef, Long, MethodRef}
+use Rattle.nr_prog.specs.BodyNames.{IsArrayOf, IsClassOf, IsComponent, IsConstant, IsUsed, class_text_at, is_of_long}
 use Rattle.nr_prog.specs.BodyOperands.{operands, row_of}
 use Rattle.nr_prog.specs.Legal.{IsClassText}
 use Rattle.nr_prog.specs.Pool.{entry_at}
 use Rattle.nr_linked.specs.declared.program.kind.Base.{Base}
 use Rattle.nr_linked.specs.declared.program.kind.Base.TheVariants as bases
 use Rattle.nr_linked.specs.declared.program.kind.Kind.{Kind}
-use Rattle.nr_linked.specs.declared.program.tables.MethodInfo.{MethodInfo}
 use Rattle.nr_linked.specs.declared.program.tables.ProgramTables.{ProgramTables}
 use Rattle.nr_linked.specs.declared.program.tables.Resolved.{Resolved}
 use Rattle.nr_linked.specs.declared.program.tables.Resolved.TheVariants as resolved
@@ -38,11 +34,10 @@ use Rattle.nr_linked.proofs.Components.{components_same}
 use Rattle.nr_linked.specs.Kinds.{class_in, class_kind}
 use Rattle.nr_linked.specs.KindTexts.{kind_desc}
 use Rattle.nr_linked.specs.Linked.{Linked, is_class_in, is_kind_in}
-use Rattle.nr_linked.specs.Programs.{class_at}
 use Rattle.nr_linked.specs.Subtypes.{admits_arrays, admits_any, is_above, is_assignable, is_base_assignable}
 use Rattle.nr_linked.specs.TypingChecks.{letters_of}
 use Rattle.nr_linked.specs.TypingFacts.{has_constant, is_constant, is_makeable, is_shaped}
-use Rattle.nr_links.specs.Found.{IsCallFound, IsConstantFound, IsFieldFound, IsFound, IsFoundAt, IsFoundBy, IsKindFound, IsMethodFound, index_in}
+use Rattle.nr_links.specs.Found.{IsCallFound, IsConstantFound, IsFound, IsFoundAt, IsFoundBy, IsMethodFound, index_in}
 use Rattle.nr_links.specs.Named.{NamesKind}
 use Rattle.nr_links.proofs.Descriptors.{one_desc}
 use Rattle.nr_links.proofs.Instructions.{HasText, is_pool_shape, constant_row, counts, dims_shape, is_one_constant, mul_row, row_listed, shaped, uses}

@@ -1,32 +1,29 @@
 -- What stands above a class whose references go anywhere, and the slots of classes, in the tables that classes link to.
-use Rattle.std.proofs.Common.{◌≡◌, ℕ, zero, suc, ◌+◌, ◌-◌, ◌<◌, ◌≤◌, ◌⊎◌, inl, inr, Bool, true, false, List, [], ◌∷◌, ◌++◌, length, map, drop, refl, sym, ap, subst, ◌∙◌, arith, not, cond, ◌&&◌, ◌||◌}
-use Rattle.std.specs.Prelude.{Option, Some, None, IfSome, IsTrue, Contains, slice_get, nat_lt, ◌==◌, is_none}
+use Rattle.std.proofs.Common.{◌≡◌, ℕ, zero, suc, ◌<◌, ◌⊎◌, inl, inr, Bool, true, false, List, [], ◌∷◌, ◌++◌, length, map, refl, sym, ap, subst, ◌∙◌, arith, not, cond, ◌||◌}
+use Rattle.std.specs.Prelude.{Option, Some, None, IfSome, IsTrue, Contains, slice_get, ◌==◌, is_none}
 use Rattle.std.specs.List.{filter, list_all, list_any}
 use Rattle.std.specs.Option.{option_and_then, option_map_or}
 use Rattle.std.proofs.lemmas.Bool.{and_parts, eqb-true, eq-eqb, both_ways, cases_Bool, false_from_ne_true, ltb-true, lt-ltb, le-ltb, or_cases, or_left, or_right}
-use Rattle.std.proofs.lemmas.List.Elements.{All-contains}
 use Rattle.std.proofs.lemmas.Option.{same_Some, slice_get_within}
 use Rattle.nr_prog.specs.declared.body.loaded.Loaded.{Loaded}
 use Rattle.nr_prog.specs.declared.member.Field.{Field}
-use Rattle.nr_prog.specs.declared.parts.ClassParts.{ClassParts}
 use Rattle.nr_linked.specs.declared.program.built_in.BuiltIn.{BuiltIn}
 use Rattle.nr_linked.specs.declared.program.built_in.BuiltIn.TheVariants.{Object}
 use Rattle.nr_linked.specs.declared.program.tables.ClassInfo.{ClassInfo}
 use Rattle.nr_linked.specs.declared.program.tables.ProgramTables.{ProgramTables}
 use Rattle.nr_linked.specs.declared.program.tables.SlotInfo.{SlotInfo}
 use Rattle.nr_prog.specs.Members.{is_static}
-use Rattle.nr_linked.specs.BuiltIns.{built_in, built_in_class, number}
+use Rattle.nr_linked.specs.BuiltIns.{built_in, built_in_class}
 use Rattle.nr_linked.specs.BuiltInTables.{built_in_info}
 use Rattle.nr_linked.specs.Linked.{IsReadAs, Linked, first_built_in, inherited_slots, is_class_in, is_loaded, is_super_in, own_slots, slot_texts, field_texts}
-use Rattle.nr_linked.specs.Programs.{class_at, is_interface, super_of, superclasses, upward}
+use Rattle.nr_linked.specs.Programs.{class_at, is_interface, super_of, upward}
 use Rattle.nr_linked.specs.Slots.{slots_of}
 use Rattle.nr_linked.specs.Subtypes.{Above, IsDirectlyAbove, admits_any, further, is_above, itself}
 use Rattle.nr_links.specs.Links.{Links}
-use Rattle.nr_links.specs.Rules.{has_interface_members}
 use Rattle.nr_links.proofs.BuiltInEntries.{built_in_at, info_of, of_built_in}
-use Rattle.nr_links.proofs.Listed.{contains_listed, listed_all, listed_contains}
+use Rattle.nr_links.proofs.Listed.{listed_all, listed_contains}
 use Rattle.nr_links.proofs.Places.{get_below, get_either, get_left, passes_at, some_of}
-use Rattle.nr_links.proofs.Upward.{down, one_step, super_step, up}
+use Rattle.nr_links.proofs.Upward.{down, super_step, up}
 
 -- ---- classes that were loaded
 

@@ -1,15 +1,12 @@
 -- What stands above a class of a program: by the list that its entry keeps, and by steps.
-use Rattle.std.proofs.Common.{◌≡◌, ℕ, zero, suc, ◌+◌, ◌⊎◌, inl, inr, Bool, true, false, List, [], ◌∷◌, length, refl, sym, ap, subst, ◌∙◌, not, ◌&&◌, ◌||◌}
-use Rattle.std.specs.Prelude.{Option, Some, None, IsTrue, IsSomeAnd, Contains, is_none, slice_get, ◌==◌}
-use Rattle.std.specs.List.{list_all, list_any}
-use Rattle.std.specs.Option.{option_and_then, option_map_or}
-use Rattle.std.proofs.lemmas.Bool.{both_ways}
-use Rattle.nr_linked.specs.declared.program.built_in.BuiltIn.TheVariants.{Object}
+use Rattle.std.proofs.Common.{◌≡◌, ℕ, zero, suc, ◌⊎◌, inl, length, refl, subst}
+use Rattle.std.specs.Prelude.{Option, Some, None, IsTrue, IsSomeAnd, Contains, slice_get, ◌==◌}
+use Rattle.std.specs.List.{list_any}
+use Rattle.std.specs.Option.{option_and_then}
 use Rattle.nr_linked.specs.declared.program.tables.ClassInfo.{ClassInfo}
 use Rattle.nr_linked.specs.declared.program.tables.ProgramTables.{ProgramTables}
-use Rattle.nr_linked.specs.BuiltIns.{built_in}
-use Rattle.nr_linked.specs.Linked.{IsClassLinked, Linked}
-use Rattle.nr_linked.specs.Programs.{class_at, is_interface, super_of, superclasses, upward}
+use Rattle.nr_linked.specs.Linked.{Linked}
+use Rattle.nr_linked.specs.Programs.{class_at, super_of, superclasses, upward}
 use Rattle.nr_linked.specs.Subtypes.{Above, IsDirectlyAbove, further, is_above, itself}
 use Rattle.nr_links.proofs.Places.{is_some_and, passing, some_of}
 

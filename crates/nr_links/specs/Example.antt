@@ -1,7 +1,7 @@
 -- A class and an interface that it implements, as they are loaded, and the tables that they link to. The class A has an int
 -- field v, an initialiser, a method m that gives the field, and a static main that makes an A and calls m by the interface
 -- Face; a handler catches a Throwable.
-use Rattle.std.specs.Prelude.{ℕ, List, [], ◌∷◌, ◌++◌, Option, Some, None, Bool, true, false, codes}
+use Rattle.std.specs.Prelude.{ℕ, List, [], ◌∷◌, ◌++◌, Option, Some, None, false, codes}
 use Rattle.nr_optable.specs.Rows.{op, none, one}
 use Rattle.nr_optable.specs.declared.table.Row.{Row}
 use Rattle.nr_optable.specs.declared.table.Family.TheVariants.{F2, F3, F6, F12, F13, F30, F32, F33}

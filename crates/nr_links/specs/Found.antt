@@ -1,6 +1,6 @@
 -- What linking finds for an instruction: JVM Specification 6.5, each instruction's description and its linking exceptions.
 -- That all instructions are linked before a run is the project's own rule.
-use Rattle.std.specs.Prelude.{◌≡◌, ℕ, List, Bool, false, ◌==◌, Option, Some, None, IsTrue, IsSomeAnd}
+use Rattle.std.specs.Prelude.{◌≡◌, ℕ, List, false, ◌==◌, Option, Some, None, IsTrue, IsSomeAnd}
 use Rattle.nr_optable.specs.declared.table.Family.{Family}
 use Rattle.nr_optable.specs.declared.table.Family.TheVariants.{F8, F30, F31, F32, F33, F34, F37}
 use Rattle.nr_prog.specs.declared.body.instruction.Args.{Args}
