@@ -13,8 +13,8 @@ use std::alloc::AllocError;
 pub enum LoadFault {
     /// The bytes are no class file. The fault is never `ClassFault::NoMemory`.
     Class(ClassFault),
-    /// The code of the method at this place, from 0, is refused; that of those before isn't. The fault
-    /// is never `CodeFault::NoMemory`.
+    /// The code of the method at this place, from 0, is refused; that of those before isn't. The
+    /// fault is never `CodeFault::NoMemory`.
     Code(u16, CodeFault),
     /// There was no memory to load the class.
     NoMemory,

@@ -85,12 +85,14 @@ fn read_bodies(alloc: Global, class: &Class) -> Result<Items<Option<Body>>, Load
     read_all(alloc, class)
 }
 
-/// The class of a class file, with the code of each of its methods (JVM Specification 4, version 50.0).
+/// The class of a class file, with the code of each of its methods (JVM Specification 4, version
+/// 50.0).
 ///
 /// # Errors
 ///
-/// `Class` with the first fault of the file, whatever its code; then `Code`, with the place of the first
-/// method whose code is refused and the first fault of that code; `NoMemory` for want of memory.
+/// `Class` with the first fault of the file, whatever its code; then `Code`, with the place of the
+/// first method whose code is refused and the first fault of that code; `NoMemory` for want of
+/// memory.
 #[tactic(auto, unfolding(crate::specs::Decoding::loaded_of))]
 pub fn load_class(alloc: Global, bytes: &[u8]) -> Result<Loaded, LoadFault>
     requires { length bytes.now < 2 ^ 32 }

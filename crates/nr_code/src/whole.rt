@@ -115,8 +115,9 @@ pub fn decode_code(
 ///
 /// # Errors
 ///
-/// The first fault of the code, as `CodeFault` says: of the instructions, then of the targets of their
-/// branches, then of the exception handlers, then of the frame maps. `NoMemory` for want of memory.
+/// The first fault of the code, as `CodeFault` says: of the instructions, then of the targets of
+/// their branches, then of the exception handlers, then of the frame maps. `NoMemory` for want of
+/// memory.
 pub fn decode(alloc: Global, class: &Class, method: u16) -> Result<Body, CodeFault>
     requires code { IsSome (code_at class.now method) }
     requires maps { HasShortMaps (code_at class.now method) }

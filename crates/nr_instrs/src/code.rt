@@ -46,13 +46,13 @@ fn know(class: &Class, bytes: &[u8])
     let _parts = class.parts();
 }
 
-/// The instructions of a method, with their targets, from the bytes of its code (JVM Specification 4.9.1,
-/// 6.5). They stand in the order of their offsets.
+/// The instructions of a method, with their targets, from the bytes of its code (JVM Specification
+/// 4.9.1, 6.5). They stand in the order of their offsets.
 ///
 /// # Errors
 ///
-/// The first fault of the instructions, in order, then of the targets of their branches. `NoMemory` for
-/// want of memory.
+/// The first fault of the instructions, in order, then of the targets of their branches. `NoMemory`
+/// for want of memory.
 pub fn decode_instrs(alloc: Global, class: &Class, bytes: &[u8]) -> Result<Items<Instr>, CodeFault>
     requires { length bytes.now < 2 ^ 16 }
     ensures found { IfOk result (λ is. spelled_by class.now.pool 0 is bytes.now × All (HasTargets is) is) }

@@ -9,15 +9,16 @@ use std::alloc::{AllocError, AllocFailed};
 
 /// The first fault of a method's code. Instructions are looked at first, each as a whole, then all
 /// targets of branches, then the exception handlers, then the frame maps. `at` is an instruction's
-/// offset in the code; in the faults of frame maps it is an offset in the contents of `StackMapTable`.
+/// offset in the code; in the faults of frame maps it is an offset in the contents of
+/// `StackMapTable`.
 #[derive(Clone, Copy, Debug, PartialEq, Eq)]
 pub enum CodeFault {
     /// The code at this offset is above 201, so of no instruction (JVM Specification 7).
     UnknownOp(u32),
     /// The instruction at this offset, of this code, isn't in the profile, or its operand isn't.
     OutOfProfile(u32, u8),
-    /// The instruction at this offset, or the number of a frame map at this offset, doesn't fit in the
-    /// bytes that are left.
+    /// The instruction at this offset, or the number of a frame map at this offset, doesn't fit in
+    /// the bytes that are left.
     Short(u32),
     /// The branch at this offset has a target where no instruction starts (4.9.1).
     Target(u32, i64),

@@ -1,5 +1,5 @@
-//! The instructions of a method: its bytes are read one behind the other, each target of a branch is looked
-//! up, and the first fault is told with its place (JVM Specification 4.9.1, 6.5).
+//! The instructions of a method: its bytes are read one behind the other, each target of a branch
+//! is looked up, and the first fault is told with its place (JVM Specification 4.9.1, 6.5).
 #![tactic(auto)]
 
 mod code;

@@ -1,5 +1,5 @@
-//! What instructions, exception handlers and frame maps name in the constant pool (JVM Specification
-//! 4.4).
+//! What instructions, exception handlers and frame maps name in the constant pool (JVM
+//! Specification 4.4).
 
 ghost use Rattle.std.specs.Prelude.{◌≡◌, ◌<◌, ◌^◌, length, option_copied, Some, None, IfSome, IfOk, IsOkUnless, if◌then◌else◌};
 ghost use Rattle.nr_base.specs.Names.{is_name};
@@ -151,8 +151,8 @@ fn desc_text(class: &Class, index: u16) -> Option<&[u8]>
     }
 }
 
-/// Whether an index names a method of an interface whose bytes are a name, and the arguments take so
-/// many slots.
+/// Whether an index names a method of an interface whose bytes are a name, and the arguments take
+/// so many slots.
 pub fn is_interface_method(
     alloc: Global,
     class: &Class,

@@ -90,8 +90,9 @@ fn read_frame_types(
     Ok((copied(alloc, &before[..kept])?, stack))
 }
 
-/// A frame map whose tag stands at `at`, for this offset in the code, behind those in `maps`; `locals` are
-/// those of the last, and then its own. It gives the offset from which the next one's delta counts.
+/// A frame map whose tag stands at `at`, for this offset in the code, behind those in `maps`;
+/// `locals` are those of the last, and then its own. It gives the offset from which the next one's
+/// delta counts.
 #[tactic(auto, unfolding(crate::specs::MapReading::placed_at, crate::specs::MapReading::starts_at, nr_base::specs::Reader::bind, nr_base::specs::Reader::pure, nr_base::specs::Reader::refuse, nr_base::specs::Reader::choose, nr_base::specs::Reader::from, nr_base::specs::Reader::with_fault))]
 fn read_placed(
     alloc: Global,

@@ -5,11 +5,12 @@ use std::alloc::{AllocError, Global};
 use std::process::Abort;
 use std::test::Fail;
 
-// A class file as far as the name of its method's attribute. Its pool has, from index 1, a class M and its super, the
-// name and descriptor of `main`, the names of the attributes (8), an int, a float, a long and a double (9, 10, 11, 13),
-// a string (15), a name and type, a field, a method and an interface's method of M (16 to 19), the classes [[I (21) and
-// one by no name (23), a field of that one (24), an interface's method of 5 slots (27) and one by no descriptor (29), an
-// array of 255 dimensions (31) and one of floats (33).
+// A class file as far as the name of its method's attribute. Its pool has, from index 1, a class M
+// and its super, the name and descriptor of `main`, the names of the attributes (8), an int, a
+// float, a long and a double (9, 10, 11, 13), a string (15), a name and type, a field, a method and
+// an interface's method of M (16 to 19), the classes [[I (21) and one by no name (23), a field of
+// that one (24), an interface's method of 5 slots (27) and one by no descriptor (29), an array of
+// 255 dimensions (31) and one of floats (33).
 const FRONT: &str = "\
 CAFEBABE0000003200220100014D0700010100106A6176612F6C616E672F4F626A6563740700030100046D61\
 696E010005285B492949010004436F646501000D537461636B4D61705461626C650300000007040000000005\

@@ -18,8 +18,8 @@ ava/lang/Object;)I\x01\0\x0ASourceFile\x01\0\x0CCounter.java\0!\0\x07\0\x02\0\x0
 \x07\xB4\0\x09d\xACM\x02\xAC\0\x01\0\0\0\x0C\0\x0D\0\x0D\0\x02\0\x1F\0\0\0\x0E\0\x03\0\0\0\x10\0\x0D\0\
 \x11\0\x0E\0\x12\0!\0\0\0\x06\0\x01M\x07\0\x0D\0\x01\0$\0\0\0\x02\0%";
 
-// A class of one static method with switches, wide instructions and frame maps of each form, which is
-// assembled by hand.
+// A class of one static method with switches, wide instructions and frame maps of each form, which
+// is assembled by hand.
 pub const SWITCHES: &[u8] = b"\
 \xCA\xFE\xBA\xBE\0\0\02\0\x0D\x01\0\x01W\x07\0\x01\x01\0\x10java/lang/Object\x07\0\x03\x01\0\x04mai\
 n\x01\0\x05([I)I\x01\0\x04Code\x01\0\x0DStackMapTable\x01\0\x1Ajava/lang/RuntimeException\x07\0\x09\

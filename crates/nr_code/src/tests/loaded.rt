@@ -7,8 +7,8 @@ use nr_classread::read_class;
 use std::process::Abort;
 use std::test::Fail;
 
-// What javap -v -p says of it, with the codes of the instructions by the JVM Specification, chapter 7,
-// and each frame map as the whole frame that it stands for.
+// What javap -v -p says of it, with the codes of the instructions by the JVM Specification, chapter
+// 7, and each frame map as the whole frame that it stands for.
 const COUNTER_BODIES: &str = "\
 body
 0 42
