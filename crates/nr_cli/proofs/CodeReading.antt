@@ -369,14 +369,7 @@ of_code_never place (faults.MapOrder a) ne e = absurd cc
 
 of_class_never : (f : ClassFault) → (f ≡ files.NoMemory → ⊥) → of_class f ≡ loads.NoMemory → ⊥
 of_class_never files.NoMemory ne e = ne refl
-of_class_never (files.Short a) ne e = absurd cc
-of_class_never files.BadMagic ne e = absurd cc
-of_class_never (files.Version a b) ne e = absurd cc
-of_class_never (files.PoolTag a b) ne e = absurd cc
-of_class_never (files.AttrLength a) ne e = absurd cc
-of_class_never (files.DoubledAttr a) ne e = absurd cc
-of_class_never (files.Trailing a) ne e = absurd cc
-of_class_never (files.Form f) ne e = absurd cc
+of_class_never f ne e = absurd cc
 
 one_avoids : (c : ClassParts) (place : ℕ) (m : Method) (code : Option Code) → Avoids loads.NoMemory (body_in c place m code)
 unfolding body_in

@@ -1,5 +1,5 @@
 -- What is decoded is the code of the method, and the code of a method is decoded.
-use Rattle.std.proofs.Common.{◌≡◌, ℕ, ◌+◌, ◌<◌, ◌^◌, List, [], ◌∷◌, ◌++◌, length, get_or, take, Option, Some, None, Result, Ok, Err, refl, sym, ap, subst, ◌∙◌, append_assoc, arith}
+use Rattle.std.proofs.Common.{◌≡◌, ℕ, ◌+◌, ◌<◌, ◌^◌, List, [], ◌∷◌, ◌++◌, length, get_or, take, Option, Some, None, Result, Ok, Err, refl, sym, ap, subst, ◌∙◌, append_assoc}
 use Rattle.std.specs.Prelude.{IfOk, IfSome, slice_get}
 use Rattle.std.specs.List.{All}
 use Rattle.std.proofs.lemmas.List.{append-nil, take_more}
@@ -19,7 +19,7 @@ use Rattle.nr_prog.specs.declared.body.loaded.Loaded.{Loaded}
 use Rattle.nr_prog.specs.Pool.{IsText}
 use Rattle.nr_prog.specs.Form.{IsFormed, IsMethodFormed}
 use Rattle.nr_prog.specs.BodyMaps.{Mapped, frames, IsMapped}
-use Rattle.nr_prog.specs.BodyText.{instrs, IsBody, CodeAs, BodyFor, EachBody, HasBodies}
+use Rattle.nr_prog.specs.BodyText.{IsBody, CodeAs, BodyFor, EachBody, HasBodies}
 use Rattle.nr_instrs.specs.declared.fault.CodeFault.{CodeFault}
 use Rattle.nr_code.specs.declared.fault.LoadFault.{LoadFault}
 use Rattle.nr_instrs.specs.declared.fault.CodeFault.TheVariants as faults

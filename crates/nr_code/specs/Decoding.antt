@@ -1,6 +1,6 @@
 -- Decoding the code of a method, and of all methods of a class, with the first fault: instructions, then targets, then exception handlers, then frame
 -- maps. The project's own rule.
-use Rattle.std.specs.Prelude.{ℕ, List, [], ◌∷◌, ◌++◌, length, Option, Some, None, Result, Ok, Err}
+use Rattle.std.specs.Prelude.{ℕ, List, [], ◌∷◌, ◌++◌, length, Option, Some, None, Result, Ok}
 use Rattle.nr_base.specs.Reader.{map_fault}
 use Rattle.nr_prog.specs.declared.member.Method.{Method}
 use Rattle.nr_prog.specs.declared.member.Code.{Code}
