@@ -92,7 +92,7 @@ module _ (P : ProgramTables) (frames : ℕ → List TypeFrame) (h k : Heap) (n :
     locals = locals_on x.method x.method.max_locals x.types.locals f.locals x.locals;
   }
 
-  all_wait : (result : Option Kind) (r : ℕ) (fs : List Frame) → AllWait P frames result h r fs → AllWait P frames result k r fs
+  pub all_wait : (result : Option Kind) (r : ℕ) (fs : List Frame) → AllWait P frames result h r fs → AllWait P frames result k r fs
   all_wait result r [] q = q
   all_wait result r (f ∷ fs) q = let w = q.0 in (
     record {

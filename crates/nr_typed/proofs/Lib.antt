@@ -23,6 +23,7 @@ pub mod Returning
 pub mod Steps
 pub mod Progress
 pub mod Elsewhere
+pub mod Asking
 pub mod Places
 pub mod Agreeing
 pub mod Blanks

@@ -4,4 +4,5 @@ pub mod TypedHeaps
 pub mod Fits
 pub mod Standing
 pub mod Usable
+pub mod TypedAnswers
 pub mod Example

@@ -1,11 +1,13 @@
 //! The laws of well-typed programs.
 
+mod asks;
 mod elsewhere;
 mod example;
 mod progress;
 mod start;
 mod usable;
 
+pub use asks::{answers_stand, ask_runs_stand};
 pub use elsewhere::standing_needs_only_names;
 pub use example::premises_can_be_met;
 pub use progress::well_typed_programs_go_on;

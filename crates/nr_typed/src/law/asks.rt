@@ -1,0 +1,40 @@
+//! Runs with remote calls.
+
+ghost use Rattle.std.specs.Prelude.{◌≡◌, ℕ, List, Option};
+ghost use Rattle.nr_linked.specs.declared.program.kind.Kind.{Kind};
+ghost use Rattle.nr_linked.specs.declared.program.tables.ProgramTables.{ProgramTables};
+ghost use Rattle.nr_linked.specs.TypingFacts.{TypingFacts};
+ghost use Rattle.nr_linked.specs.WellTyped.{WellTyped};
+ghost use Rattle.nr_heap.specs.declared.value.Value.{Value};
+ghost use Rattle.nr_heap.specs.States.{Returned, State};
+ghost use Rattle.nr_heap.specs.Asks.{AskRun, AskStep, Entry};
+ghost use Rattle.nr_typed.specs.Standing.{IsResult, StandsIn};
+ghost use Rattle.nr_typed.specs.TypedAnswers.{EachTyped, IsTypedEntry};
+
+/// Promises that a remote call of a well-typed program, from a state that stands in its heap, leads to a
+/// state that stands, for the same result of the first method, where its answer is typed: a typed heap that
+/// keeps the names of the old one with their kinds, and a value that is the called method's result; or a
+/// fault, of a class that can be thrown. It does nothing.
+pub fn answers_stand()
+    ensures { (p : ProgramTables) (service : Option ℕ) (fault : ℕ) (result : Option Kind) (s t : State) (e : Entry)
+        → TypingFacts p → (typed : WellTyped p)
+        → StandsIn p typed.frames result s → AskStep p service fault s e t → IsTypedEntry p fault e
+        → StandsIn p typed.frames result t }
+{}
+
+/// Promises that a run with remote calls of a well-typed program, from a state that stands in its heap, leads
+/// to a state that stands, for the same result of the first method, where each call's answer is typed. So
+/// where it ends by a return, it gives nothing if there is no result, and else a value that belongs to the
+/// verifier's type of the result, in the heap then. It does nothing.
+pub fn ask_runs_stand()
+    ensures stands { (p : ProgramTables) (service : Option ℕ) (fault : ℕ) (result : Option Kind) (k : ℕ)
+        (s t : State) (calls : List Entry)
+        → TypingFacts p → (typed : WellTyped p)
+        → StandsIn p typed.frames result s → AskRun p service fault s calls k t → EachTyped p fault calls
+        → StandsIn p typed.frames result t }
+    ensures results { (p : ProgramTables) (service : Option ℕ) (fault : ℕ) (result : Option Kind) (k : ℕ)
+        (s t : State) (calls : List Entry) (v : Option Value)
+        → TypingFacts p → (typed : WellTyped p)
+        → StandsIn p typed.frames result s → AskRun p service fault s calls k t → EachTyped p fault calls
+        → t.control ≡ Returned v → IsResult p t.heap result v }
+{}
