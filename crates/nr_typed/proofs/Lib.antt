@@ -24,6 +24,7 @@ pub mod Steps
 pub mod Progress
 pub mod Elsewhere
 pub mod Asking
+pub mod Remote
 pub mod Places
 pub mod Agreeing
 pub mod Blanks

@@ -1,15 +1,16 @@
 //! Runs with remote calls.
 
-ghost use Rattle.std.specs.Prelude.{◌≡◌, ℕ, List, Option};
+ghost use Rattle.std.specs.Prelude.{◌≡◌, ◌⊎◌, ℕ, List, Option};
 ghost use Rattle.nr_linked.specs.declared.program.kind.Kind.{Kind};
 ghost use Rattle.nr_linked.specs.declared.program.tables.ProgramTables.{ProgramTables};
 ghost use Rattle.nr_linked.specs.TypingFacts.{TypingFacts};
 ghost use Rattle.nr_linked.specs.WellTyped.{WellTyped};
 ghost use Rattle.nr_heap.specs.declared.value.Value.{Value};
-ghost use Rattle.nr_heap.specs.States.{Returned, State};
-ghost use Rattle.nr_heap.specs.Asks.{AskRun, AskStep, Entry};
+ghost use Rattle.nr_heap.specs.States.{IsEnd, Returned, State};
+ghost use Rattle.nr_heap.specs.Steps.{Step};
+ghost use Rattle.nr_heap.specs.Asks.{Answer, AskRun, AskStep, Asks, Entry};
 ghost use Rattle.nr_typed.specs.Standing.{IsResult, StandsIn};
-ghost use Rattle.nr_typed.specs.TypedAnswers.{EachTyped, IsTypedEntry};
+ghost use Rattle.nr_typed.specs.TypedAnswers.{EachTyped, IsTypedEntry, entry_of};
 
 /// Promises that a remote call of a well-typed program, from a state that stands in its heap, leads to a
 /// state that stands, for the same result of the first method, where its answer is typed: a typed heap that
@@ -37,4 +38,19 @@ pub fn ask_runs_stand()
         → TypingFacts p → (typed : WellTyped p)
         → StandsIn p typed.frames result s → AskRun p service fault s calls k t → EachTyped p fault calls
         → t.control ≡ Returned v → IsResult p t.heap result v }
+{}
+
+/// Promises that a machine with remote calls of a well-typed program never stands still before its end: from
+/// each state that stands in its heap and is no end, either there is a remote call, which goes on with each
+/// typed answer, or there is none, and a step of the machine. It does nothing.
+pub fn ask_runs_go_on()
+    ensures progress { (p : ProgramTables) (service : Option ℕ) (result : Option Kind) (s : State)
+        → TypingFacts p → (typed : WellTyped p)
+        → StandsIn p typed.frames result s → ¬ IsEnd s.control
+        → Asks p service s ⊎ (¬ Asks p service s × ((t : State) × Step p s t)) }
+    ensures answers { (p : ProgramTables) (service : Option ℕ) (fault : ℕ) (result : Option Kind) (s : State)
+        (asks : Asks p service s) (answer : Answer)
+        → TypingFacts p → (typed : WellTyped p)
+        → StandsIn p typed.frames result s → IsTypedEntry p fault (entry_of asks answer)
+        → (t : State) × AskStep p service fault s (entry_of asks answer) t }
 {}
