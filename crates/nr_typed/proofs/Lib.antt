@@ -25,6 +25,7 @@ pub mod Progress
 pub mod Elsewhere
 pub mod Asking
 pub mod Remote
+pub mod Unique
 pub mod Places
 pub mod Agreeing
 pub mod Blanks

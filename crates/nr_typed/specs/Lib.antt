@@ -5,4 +5,5 @@ pub mod Fits
 pub mod Standing
 pub mod Usable
 pub mod TypedAnswers
+pub mod Offsets
 pub mod Example

@@ -1,0 +1,31 @@
+//! That the frames of a well-typed program are unique.
+
+ghost use Rattle.std.specs.Prelude.{◌≡◌, ℕ, List, Option, Some};
+ghost use Rattle.nr_prog.specs.BodyText.{instrs};
+ghost use Rattle.nr_prog.specs.declared.body.instruction.Instr.{Instr};
+ghost use Rattle.nr_prog.specs.declared.body.whole.Body.{Body};
+ghost use Rattle.nr_prog.specs.declared.pool.PoolEntry.{PoolEntry};
+ghost use Rattle.nr_linked.specs.declared.program.kind.Kind.{Kind};
+ghost use Rattle.nr_linked.specs.declared.program.tables.MethodInfo.{MethodInfo};
+ghost use Rattle.nr_linked.specs.declared.program.tables.ProgramTables.{ProgramTables};
+ghost use Rattle.nr_linked.specs.Programs.{method_at};
+ghost use Rattle.nr_linked.specs.TypingFacts.{TypingFacts};
+ghost use Rattle.nr_linked.specs.WellTyped.{WellTyped};
+ghost use Rattle.nr_heap.specs.States.{State};
+ghost use Rattle.nr_typed.specs.Offsets.{AreInOrder, CodeInOrder};
+ghost use Rattle.nr_typed.specs.Standing.{StandsIn};
+
+/// Promises that a program is well typed in one way at most, where the instructions of each method stand at
+/// rising offsets, the first at 0: each method with code has one frame for each instruction, whichever way the
+/// program is well typed, so a state stands by all of them or by none. What bytes of code spell stands at such
+/// offsets. It does nothing.
+pub fn frames_are_unique()
+    ensures frames { (p : ProgramTables) (n : ℕ) (m : MethodInfo) (body : Body)
+        → TypingFacts p → CodeInOrder p → (first second : WellTyped p)
+        → method_at p n ≡ Some m → m.body ≡ Some body → first.frames n ≡ second.frames n }
+    ensures standing { (p : ProgramTables) (result : Option Kind) (s : State)
+        → TypingFacts p → CodeInOrder p → (first second : WellTyped p)
+        → StandsIn p first.frames result s → StandsIn p second.frames result s }
+    ensures spelled { (pool : List PoolEntry) (is : List Instr) (text : List ℕ)
+        → instrs pool 0 is text → AreInOrder is }
+{}
