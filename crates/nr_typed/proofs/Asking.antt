@@ -116,7 +116,7 @@ module _ (P : ProgramTables) (facts : TypingFacts P) (wt : WellTyped P) (result 
       let e = one_state fault s t g.state (waiting a) answer step g.step in
       record { heap = subst (TypedHeap P) e.0 g.stands_on.heap; control = subst₂ (ControlStands P (frames P facts wt) result) e.0 e.1 g.stands_on.control }
 
-  called_result : (s : State) (a : Asks P service s) → result_of P a.method ≡ a.info.result
+  pub called_result : (s : State) (a : Asks P service s) → result_of P a.method ≡ a.info.result
   called_result s a = ap (λ o. option_and_then (λ (i : MethodInfo). i.result) o) a.called
 
   pub asked_stands : (fault : ℕ) (s t : State) (e : Entry) → StandsIn P (frames P facts wt) result s → AskStep P service fault s e t → IsTypedEntry P fault e → StandsIn P (frames P facts wt) result t

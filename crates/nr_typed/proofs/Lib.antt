@@ -26,6 +26,9 @@ pub mod Elsewhere
 pub mod Asking
 pub mod Remote
 pub mod Unique
+pub mod Staying
+pub mod Copying
+pub mod LocalAnswers
 pub mod Places
 pub mod Agreeing
 pub mod Blanks

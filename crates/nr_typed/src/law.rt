@@ -8,7 +8,7 @@ mod start;
 mod typing;
 mod usable;
 
-pub use asks::{answers_stand, ask_runs_go_on, ask_runs_stand};
+pub use asks::{answers_stand, ask_runs_go_on, ask_runs_stand, local_answers_are_typed};
 pub use elsewhere::standing_needs_only_names;
 pub use example::premises_can_be_met;
 pub use progress::well_typed_programs_go_on;

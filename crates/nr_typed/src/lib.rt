@@ -7,6 +7,6 @@ mod law;
 
 pub use law::{
     answers_stand, ask_runs_go_on, ask_runs_stand, first_states_stand, frames_are_unique,
-    premises_can_be_met, standing_needs_only_names, usable_pairs_are_kept,
+    local_answers_are_typed, premises_can_be_met, standing_needs_only_names, usable_pairs_are_kept,
     well_typed_programs_go_on,
 };

@@ -1,6 +1,6 @@
 //! Runs with remote calls.
 
-ghost use Rattle.std.specs.Prelude.{◌≡◌, ◌⊎◌, ℕ, List, Option};
+ghost use Rattle.std.specs.Prelude.{◌≡◌, ◌⊎◌, ℕ, Bool, List, Option};
 ghost use Rattle.nr_linked.specs.declared.program.kind.Kind.{Kind};
 ghost use Rattle.nr_linked.specs.declared.program.tables.ProgramTables.{ProgramTables};
 ghost use Rattle.nr_linked.specs.TypingFacts.{TypingFacts};
@@ -9,8 +9,9 @@ ghost use Rattle.nr_heap.specs.declared.value.Value.{Value};
 ghost use Rattle.nr_heap.specs.States.{IsEnd, Returned, State};
 ghost use Rattle.nr_heap.specs.Steps.{Step};
 ghost use Rattle.nr_heap.specs.Asks.{Answer, AskRun, AskStep, Asks, Entry};
+ghost use Rattle.nr_heap.specs.LocalEntries.{AllFated, IsOwn};
 ghost use Rattle.nr_typed.specs.Standing.{IsResult, StandsIn};
-ghost use Rattle.nr_typed.specs.TypedAnswers.{EachTyped, IsTypedEntry, entry_of};
+ghost use Rattle.nr_typed.specs.TypedAnswers.{CanBeThrown, EachTyped, IsTypedEntry, entry_of};
 
 /// Promises that a remote call of a well-typed program, from a state that stands in its heap, leads to a
 /// state that stands, for the same result of the first method, where its answer is typed: a typed heap that
@@ -53,4 +54,21 @@ pub fn ask_runs_go_on()
         → TypingFacts p → (typed : WellTyped p)
         → StandsIn p typed.frames result s → IsTypedEntry p fault (entry_of asks answer)
         → (t : State) × AskStep p service fault s (entry_of asks answer) t }
+{}
+
+/// Promises that an answer is typed where it is just what a local run of the method left, with copies of what
+/// is passed by copy. So from a state that stands in its heap, a run whose remote calls are local runs
+/// themselves, but meet faults at some calls, of a class that can be thrown, leads to a state that stands. It
+/// does nothing.
+pub fn local_answers_are_typed()
+    ensures answers { (p : ProgramTables) (service : Option ℕ) (fault : ℕ) (result : Option Kind) (s t : State)
+        (e : Entry)
+        → TypingFacts p → (typed : WellTyped p)
+        → StandsIn p typed.frames result s → AskStep p service fault s e t → IsOwn p e
+        → IsTypedEntry p fault e }
+    ensures runs { (p : ProgramTables) (service : Option ℕ) (fault : ℕ) (faulted : ℕ → Bool)
+        (result : Option Kind) (n k : ℕ) (s t : State) (calls : List Entry)
+        → TypingFacts p → (typed : WellTyped p)
+        → StandsIn p typed.frames result s → AskRun p service fault s calls k t → CanBeThrown p fault
+        → AllFated p faulted n calls → StandsIn p typed.frames result t }
 {}
