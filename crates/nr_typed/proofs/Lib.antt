@@ -39,3 +39,4 @@ pub mod ExampleTyped
 pub mod ExampleFacts
 pub mod ExampleMethods
 pub mod ExampleLinked
+pub mod ExampleOrder

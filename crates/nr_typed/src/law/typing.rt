@@ -15,10 +15,10 @@ ghost use Rattle.nr_heap.specs.States.{State};
 ghost use Rattle.nr_typed.specs.Offsets.{AreInOrder, CodeInOrder};
 ghost use Rattle.nr_typed.specs.Standing.{StandsIn};
 
-/// Promises that a program is well typed in one way at most, where the instructions of each method stand at
-/// rising offsets, the first at 0: each method with code has one frame for each instruction, whichever way the
-/// program is well typed, so a state stands by all of them or by none. What bytes of code spell stands at such
-/// offsets. It does nothing.
+/// Promises that a program is well typed by the same frames in every way, where the instructions of each
+/// method stand at rising offsets, the first at 0: each method with code has one list of frames. So a state
+/// that stands by one way stands by each other. What bytes of code spell stands at such offsets. It does
+/// nothing.
 pub fn frames_are_unique()
     ensures frames { (p : ProgramTables) (n : ℕ) (m : MethodInfo) (body : Body)
         → TypingFacts p → CodeInOrder p → (first second : WellTyped p)
