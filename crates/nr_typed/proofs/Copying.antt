@@ -26,7 +26,7 @@ slot_of copies [] i v e = absurd (none_some e)
 slot_of copies (u ∷ vs) zero v e = (u, refl, some_same e)
 slot_of copies (u ∷ vs) (suc i) v e = slot_of copies vs i v e
 
-some_not_none : {o : Obj} {x : Option Obj} → x ≡ Some o → x ≢ None
+pub some_not_none : {o : Obj} {x : Option Obj} → x ≡ Some o → x ≢ None
 some_not_none e f = cc
 
 module _ (P : ProgramTables) (h : Heap) (args : List Value) (k : Heap) (args' : List Value) (c : CopyArgs P h args k args') where

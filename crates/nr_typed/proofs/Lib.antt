@@ -28,6 +28,7 @@ pub mod Remote
 pub mod Unique
 pub mod Staying
 pub mod Copying
+pub mod Restoring
 pub mod LocalAnswers
 pub mod Places
 pub mod Agreeing

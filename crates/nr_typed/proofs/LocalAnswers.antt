@@ -25,12 +25,13 @@ use Rattle.nr_typed.specs.Types.{argument_tys}
 use Rattle.nr_typed.specs.Belonging.{Belong}
 use Rattle.nr_typed.specs.TypedHeaps.{TypedHeap, Stays, KeepsNames}
 use Rattle.nr_typed.specs.Standing.{IsResult, ControlStands, StandsIn}
-use Rattle.nr_typed.specs.TypedAnswers.{CanBeThrown, IsTypedAnswer, IsTypedEntry}
+use Rattle.nr_typed.specs.TypedAnswers.{CanBeThrown, IsTypedAnswer, IsTypedEntry, IsRestored}
 use Rattle.nr_typed.proofs.Typed.{some_of, stays_on}
 use Rattle.nr_typed.proofs.Steps.{some_both, frames}
 use Rattle.nr_typed.proofs.Progress.{Owes, step_owes, first_state_stands, runs_stand, preservation}
 use Rattle.nr_typed.proofs.Staying.{run_stays}
 use Rattle.nr_typed.proofs.Copying.{copies_stay, copies_typed, arguments_copied}
+use Rattle.nr_typed.proofs.Restoring.{restored_typed, restored_keeps, restored_result}
 use Rattle.nr_typed.proofs.Asking.{stands, called_result, asked_stands}
 
 keeps : (h k : Heap) → Stays h k → KeepsNames h k
@@ -81,15 +82,27 @@ module _ (P : ProgramTables) (facts : TypingFacts P) (wt : WellTyped P) where
 
     -- ---- answers
 
-    pub own_typed : (fault : ℕ) (s t : State) (e : Entry) → StandsIn P (frames P facts wt) result s → AskStep P service fault s e t → IsOwn P e → IsTypedEntry P fault e
-    own_typed fault s t e st z o =
+    -- what a local run of the call left
+    left_typed : (fault : ℕ) (s t : State) (e : Entry) → StandsIn P (frames P facts wt) result s → AskStep P service fault s e t → (k : ℕ) (u : State) (v : Option Value) → Local P e.before e.method e.args k u → u.control ≡ Returned v
+        → TypedHeap P u.heap × KeepsNames e.before u.heap × IsResult P u.heap (result_of P e.method) v
+    left_typed fault s t e st z k u v l returned =
         let a = z.asks in
         let code = code_of a.info.body a.has_code in
         let is_i : method_at P e.method ≡ Some a.info = ap (λ n. method_at P n) z.method ∙ a.called in
         let res : result_of P e.method ≡ a.info.result = ap (λ n. result_of P n) z.method ∙ called_result P facts wt result service s a in
         let belong : Belong P e.before (argument_tys a.info) e.args = subst₂ (λ h vs. Belong P h (argument_tys a.info) vs) (sym z.before) (sym z.args) (asked_belong s a st) in
-        let r = local_typed e.before (subst (TypedHeap P) (sym z.before) st.heap) e.method a.info is_i code.0 code.1 e.args belong o.steps o.state o.result o.local o.returned in
-        subst₂ (λ q r. IsTypedAnswer P fault e.before q r) (sym res) (sym o.answer) r
+        let r = local_typed e.before (subst (TypedHeap P) (sym z.before) st.heap) e.method a.info is_i code.0 code.1 e.args belong k u v l returned in
+        (r.0, r.1, subst (λ o. IsResult P u.heap o v) (sym res) r.2)
+
+    pub own_typed : (fault : ℕ) (s t : State) (e : Entry) → StandsIn P (frames P facts wt) result s → AskStep P service fault s e t → IsOwn P e → IsTypedEntry P fault e
+    own_typed fault s t e st z o = subst (λ r. IsTypedAnswer P fault e.before (result_of P e.method) r) (sym o.answer) (left_typed fault s t e st z o.steps o.state o.result o.local o.returned)
+
+    pub restored_is_typed : (fault : ℕ) (s t : State) (e : Entry) → StandsIn P (frames P facts wt) result s → AskStep P service fault s e t → IsRestored P e → IsTypedEntry P fault e
+    restored_is_typed fault s t e st z o =
+        let l = o.local in
+        let r = left_typed fault s t e st z l.steps l.state l.result l.local l.returned in
+        subst (λ r. IsTypedAnswer P fault e.before (result_of P e.method) r) (sym l.answer)
+        (restored_typed P e.before l.state.heap l.after l.result l.value o.same r.0, restored_keeps P e.before l.state.heap l.after l.result l.value o.same r.1, restored_result P e.before l.state.heap l.after l.result l.value o.same (result_of P e.method) r.2)
 
     fault_typed : (fault : ℕ) (s t : State) (e : Entry) → CanBeThrown P fault → AskStep P service fault s e t → IsFaulted e → IsTypedEntry P fault e
     fault_typed fault s t e can z f =

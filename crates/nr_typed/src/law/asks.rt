@@ -11,7 +11,7 @@ ghost use Rattle.nr_heap.specs.Steps.{Step};
 ghost use Rattle.nr_heap.specs.Asks.{Answer, AskRun, AskStep, Asks, Entry};
 ghost use Rattle.nr_heap.specs.LocalEntries.{AllFated, IsOwn};
 ghost use Rattle.nr_typed.specs.Standing.{IsResult, StandsIn};
-ghost use Rattle.nr_typed.specs.TypedAnswers.{CanBeThrown, EachTyped, IsTypedEntry, entry_of};
+ghost use Rattle.nr_typed.specs.TypedAnswers.{CanBeThrown, EachTyped, IsRestored, IsTypedEntry, entry_of};
 
 /// Promises that a remote call of a well-typed program, from a state that stands in its heap, leads to a
 /// state that stands, for the same result of the first method, where its answer is typed: a typed heap that
@@ -57,14 +57,20 @@ pub fn ask_runs_go_on()
 {}
 
 /// Promises that an answer is typed where it is just what a local run of the method left, with copies of what
-/// is passed by copy. So from a state that stands in its heap, a run whose remote calls are local runs
+/// is passed by copy; and where it is the same but for names, in a heap with no other names than the old ones
+/// and those of what is reached, as a restore leaves. So from a state that stands in its heap, a run whose remote calls are local runs
 /// themselves, but meet faults at some calls, of a class that can be thrown, leads to a state that stands. It
 /// does nothing.
 pub fn local_answers_are_typed()
-    ensures answers { (p : ProgramTables) (service : Option ℕ) (fault : ℕ) (result : Option Kind) (s t : State)
+    ensures own { (p : ProgramTables) (service : Option ℕ) (fault : ℕ) (result : Option Kind) (s t : State)
         (e : Entry)
         → TypingFacts p → (typed : WellTyped p)
         → StandsIn p typed.frames result s → AskStep p service fault s e t → IsOwn p e
+        → IsTypedEntry p fault e }
+    ensures restored { (p : ProgramTables) (service : Option ℕ) (fault : ℕ) (result : Option Kind) (s t : State)
+        (e : Entry)
+        → TypingFacts p → (typed : WellTyped p)
+        → StandsIn p typed.frames result s → AskStep p service fault s e t → IsRestored p e
         → IsTypedEntry p fault e }
     ensures runs { (p : ProgramTables) (service : Option ℕ) (fault : ℕ) (faulted : ℕ → Bool)
         (result : Option Kind) (n k : ℕ) (s t : State) (calls : List Entry)
