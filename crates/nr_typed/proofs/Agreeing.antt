@@ -5,20 +5,22 @@ use Rattle.std.proofs.lemmas.List.{length-set}
 use Rattle.std.specs.FinMap.{get, insert}
 use Rattle.nr_linked.specs.declared.program.kind.Kind.{Kind}
 use Rattle.nr_linked.specs.declared.program.tables.ProgramTables.{ProgramTables}
-use Rattle.nr_heap.specs.declared.value.Value.{Value}
-use Rattle.nr_heap.specs.declared.value.Value.TheVariants.{Int, Null, Ref}
-use Rattle.nr_heap.specs.Heaps.{Heap}
-use Rattle.nr_heap.specs.Scripts.{plain, Script, GoTo, Throw, Return, ReturnTop, Call, Stuck, Push, PopInt, PopLong, Load, Store, Pick, Drop, AskLong, AskNull, AskSame, AskKind, ReadSlot, WriteSlot, Make, Print, Within, Ending, GoesTo, Threw, Gave, Called, OnRef, is_long, is_same, is_null, new_object, with_slot, Runs}
-use Rattle.nr_heap.specs.Alike.{Like, like_ref, AlikeObj, no_result, one_result}
-use Rattle.nr_heap.proofs.Matchings.{Matched, Moved, AlikeEnding, both_go, both_threw, both_gave, both_called}
-use Rattle.nr_heap.proofs.Heaps.{get_same, written, made, moved_none, moved_write, moved_make, moved_then, with_new, sum_left}
-use Rattle.nr_heap.proofs.Pairing.{plain_like, plains_like, lengths, set_like, on_int, on_long, on_held, on_nullable, same_name_like}
+use Rattle.nr_model.specs.declared.value.Value.{Value}
+use Rattle.nr_model.specs.declared.value.Value.TheVariants.{Int, Null, Ref}
+use Rattle.nr_model.specs.Heaps.{Heap}
+use Rattle.nr_model.specs.Scripts.{plain, Script, GoTo, Throw, Return, ReturnTop, Call, Stuck, Push, PopInt, PopLong, Load, Store, Pick, Drop, AskLong, AskNull, AskSame, AskKind, ReadSlot, WriteSlot, Make, Print, Within, Ending, GoesTo, Threw, Gave, Called, OnRef, is_long, is_same, is_null, new_object, with_slot, Runs}
+use Rattle.nr_model.specs.Alike.{Like, like_ref, AlikeObj, no_result, one_result}
+use Rattle.nr_model.proofs.Matchings.{Matched, Moved, AlikeEnding, both_go, both_threw, both_gave, both_called}
+use Rattle.nr_model.proofs.Heaps.{get_same, written, made, moved_none, moved_write, moved_make, moved_then, with_new, sum_left}
+use Rattle.nr_model.proofs.Pairing.{plain_like, plains_like, lengths, set_like, on_int, on_long, on_held, on_nullable, same_name_like}
 use Rattle.nr_typed.specs.Types.{Ty, JustNull, Exact}
 use Rattle.nr_typed.specs.Belonging.{Belongs, Sharper}
-use Rattle.nr_typed.specs.TypedHeaps.{slot_ty, TypedHeap, Stays}
+use Rattle.nr_model.specs.Staying.{Stays}
+use Rattle.nr_typed.specs.TypedHeaps.{slot_ty, TypedHeap}
 use Rattle.nr_typed.specs.Fits.{OnTy, OnAnInt, OnALong, OnSize, OnNullness, OnKinds, OnExact, without_ty, Ends, EndsTop, Fits}
 use Rattle.nr_typed.specs.Usable.{Usable}
-use Rattle.nr_typed.proofs.Typed.{at_some, stays_on, stays_write, stays_make, typed_write, typed_make, plain_length, form_of}
+use Rattle.nr_model.proofs.Staying.{stays_on, stays_write, stays_make}
+use Rattle.nr_typed.proofs.Typed.{at_some, typed_write, typed_make, plain_length, form_of}
 use Rattle.nr_typed.proofs.Places.{used_int, used_long, used_null, used_exact, used_kinds, by_use, both_admitted, slot_usable, same_form, both_named, both_nullable, kind_there, exact_there, at_slot, Places, some, places_on, one_like, places_set, places_without, places_sharper, at_top, at_place, places_belong}
 
 module _ (P : ProgramTables) (h0 : Heap) (Q : Ending → Within → Type 0) (one_kind : (w : Within) → Q (Gave (Some Null)) w → Q (Gave (Some (Int (pos 0)))) w → ⊥) where

@@ -19,11 +19,11 @@ use Rattle.nr_linked.specs.TypingChecks.{Leaves, take_int, take_ints, take_that,
 use Rattle.nr_linked.specs.TypingArrays.{is_array_with, wanted_array, take_array, loaded_type, is_any_array, length_rule, made_of_counts}
 use Rattle.nr_linked.specs.ArrayKinds.{Elements, Of, References, is_base, is_element}
 use Rattle.nr_linked.specs.TypingFacts.{TypingFacts}
-use Rattle.nr_heap.specs.declared.value.Value.TheVariants.{Int, Long}
-use Rattle.nr_heap.specs.Heaps.{Heap}
-use Rattle.nr_heap.specs.Scripts.{Plain, plain, PlainInt, PlainLong, Script, Push, PopInt, PopLong, Pick, Drop, AskKind, ReadSlot, WriteSlot, Within, Ending}
-use Rattle.nr_heap.specs.Throws.{zero_of, throw_new, not_null, at_index, with_found, which}
-use Rattle.nr_heap.specs.ArrayRules.{narrowed, storable, array_length, make_array, new_array}
+use Rattle.nr_model.specs.declared.value.Value.TheVariants.{Int, Long}
+use Rattle.nr_model.specs.Heaps.{Heap}
+use Rattle.nr_model.specs.Scripts.{Plain, plain, PlainInt, PlainLong, Script, Push, PopInt, PopLong, Pick, Drop, AskKind, ReadSlot, WriteSlot, Within, Ending}
+use Rattle.nr_model.specs.Throws.{zero_of, throw_new, not_null, at_index, with_found, which}
+use Rattle.nr_model.specs.ArrayRules.{narrowed, storable, array_length, make_array, new_array}
 use Rattle.nr_typed.specs.Types.{Ty, Word, AnInt, JustNull, Nullable, Object, Exact, kept_ty, ty_of, operand_tys, local_tys}
 use Rattle.nr_typed.specs.Belonging.{Belongs, Sharper}
 use Rattle.nr_typed.specs.TypedHeaps.{Counts, slot_ty}

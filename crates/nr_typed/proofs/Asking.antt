@@ -17,23 +17,25 @@ use Rattle.nr_linked.specs.Sites.{Site, site_at}
 use Rattle.nr_linked.specs.Subtypes.{is_above, is_assignable}
 use Rattle.nr_linked.specs.TypingFacts.{TypingFacts}
 use Rattle.nr_linked.specs.WellTyped.{WellTyped}
-use Rattle.nr_heap.specs.declared.value.Value.{Value}
-use Rattle.nr_heap.specs.declared.value.Value.TheVariants.{Ref}
-use Rattle.nr_heap.specs.Heaps.{Heap, Obj}
-use Rattle.nr_heap.specs.Scripts.{new_object}
-use Rattle.nr_heap.specs.Throws.{zeros}
-use Rattle.nr_heap.specs.CallRules.{operands_of}
-use Rattle.nr_heap.specs.States.{Frame, Returned, State}
-use Rattle.nr_heap.specs.Steps.{unwound}
-use Rattle.nr_heap.specs.Asks.{Asks, waiting, Answer, Answered, Faulted, Entry, AnswerStep, AskStep, AskRun, arrived, own, asked}
-use Rattle.nr_heap.proofs.Heaps.{get_same}
+use Rattle.nr_model.specs.declared.value.Value.{Value}
+use Rattle.nr_model.specs.declared.value.Value.TheVariants.{Ref}
+use Rattle.nr_model.specs.Heaps.{Heap, Obj}
+use Rattle.nr_model.specs.Scripts.{new_object}
+use Rattle.nr_model.specs.Throws.{zeros}
+use Rattle.nr_model.specs.CallRules.{operands_of}
+use Rattle.nr_model.specs.States.{Frame, Returned, State}
+use Rattle.nr_model.specs.Steps.{unwound}
+use Rattle.nr_model.specs.Asks.{Asks, waiting, Answer, Answered, Faulted, Entry, AnswerStep, AskStep, AskRun, arrived, own, asked}
+use Rattle.nr_model.proofs.Heaps.{get_same}
 use Rattle.nr_typed.specs.Types.{operand_tys}
 use Rattle.nr_typed.specs.Belonging.{Belong, no_place, one_place}
-use Rattle.nr_typed.specs.TypedHeaps.{TypedHeap, Stays}
+use Rattle.nr_model.specs.Staying.{Stays}
+use Rattle.nr_typed.specs.TypedHeaps.{TypedHeap}
 use Rattle.nr_typed.specs.Standing.{Waits, AllWait, AllStand, IsResult, ControlStands, StandsIn}
 use Rattle.nr_typed.specs.TypedAnswers.{IsTypedAnswer, IsTypedEntry, EachTyped, entry_of}
 use Rattle.nr_typed.proofs.Assigning.{yes, class_up}
-use Rattle.nr_typed.proofs.Typed.{stays_make, typed_make}
+use Rattle.nr_model.proofs.Staying.{stays_make}
+use Rattle.nr_typed.proofs.Typed.{typed_make}
 use Rattle.nr_typed.proofs.Owed.{length_zeros, zeros_ok}
 use Rattle.nr_typed.proofs.Steps.{some_both, frames, all_wait_on, waiting_unwinds, unwound_ok}
 use Rattle.nr_typed.proofs.Elsewhere.{all_wait}

@@ -6,12 +6,12 @@ use Rattle.nr_linked.specs.declared.program.tables.ProgramTables.{ProgramTables}
 use Rattle.nr_linked.specs.declared.program.types.VType.{VType}
 use Rattle.nr_linked.specs.TypingFrames.{TypeFrame}
 use Rattle.nr_linked.specs.WellTyped.{frame_at}
-use Rattle.nr_heap.specs.declared.value.Value.{Value}
-use Rattle.nr_heap.specs.declared.value.Value.TheVariants.{Int, Null}
-use Rattle.nr_heap.specs.Heaps.{Heap, on_some}
-use Rattle.nr_heap.specs.States.{Frame}
-use Rattle.nr_heap.specs.CallRules.{operands_of}
-use Rattle.nr_heap.specs.Alike.{Like, AllLike, no_more, one_more}
+use Rattle.nr_model.specs.declared.value.Value.{Value}
+use Rattle.nr_model.specs.declared.value.Value.TheVariants.{Int, Null}
+use Rattle.nr_model.specs.Heaps.{Heap, on_some}
+use Rattle.nr_model.specs.States.{Frame}
+use Rattle.nr_model.specs.CallRules.{operands_of}
+use Rattle.nr_model.specs.Alike.{Like, AllLike, no_more, one_more}
 use Rattle.nr_typed.specs.Types.{Ty, Anything, Word, operand_tys, local_tys}
 use Rattle.nr_typed.specs.Belonging.{Belongs, Belong, no_place, one_place, NoLong}
 use Rattle.nr_typed.specs.Standing.{Holds, Stands, Waits}

@@ -27,10 +27,10 @@ use Rattle.nr_linked.specs.Initialisers.{is_initialiser}
 use Rattle.nr_linked.specs.TypingChecks.{Checked, Leaves}
 use Rattle.nr_linked.specs.TypingCalls.{take_arguments}
 use Rattle.nr_linked.specs.TypingFacts.{TypingFacts, CallFacts}
-use Rattle.nr_heap.specs.Heaps.{Heap, on_some}
-use Rattle.nr_heap.specs.Scripts.{Script, Call, Drop, Within, Ending}
-use Rattle.nr_heap.specs.Throws.{throw_new, with_found}
-use Rattle.nr_heap.specs.CallRules.{operands_of, out_rule, built_in_rule, call, call_selected, class_of, selected_for, on_receiver, invoke_virtual, invoke_interface, invoke_special}
+use Rattle.nr_model.specs.Heaps.{Heap, on_some}
+use Rattle.nr_model.specs.Scripts.{Script, Call, Drop, Within, Ending}
+use Rattle.nr_model.specs.Throws.{throw_new, with_found}
+use Rattle.nr_model.specs.CallRules.{operands_of, out_rule, built_in_rule, call, call_selected, class_of, selected_for, on_receiver, invoke_virtual, invoke_interface, invoke_special}
 use Rattle.nr_typed.specs.Types.{argument_tys, Ty, Object, Exact, kind_tys, operand_tys, local_tys}
 use Rattle.nr_typed.specs.Belonging.{one_place, Sharper, AllSharper}
 use Rattle.nr_typed.specs.Fits.{Fits}
@@ -228,9 +228,9 @@ module _ (P : ProgramTables) (facts : TypingFacts P) where
 
         pub special_fits : (k : Script) → CallFacts P own.«class» s.instr.row.code owner callee → s.instr.row.code ≡ 183 → is_initialiser callee ≡ false → Receives P facts own F G h0 Q t own.«class»
             → Fits P h0 Q (invoke_special P own.«class» named k) LT (operand_tys own (a.args ++ (t ∷ us)))
-        special_fits k call code init r = subst (λ o. Fits P h0 Q (with_found o (λ i. on_receiver P i (λ kind. if is_initialiser i || is_private i.flags || i.«class» == own.«class» then Rattle.nr_heap.specs.CallRules.call P named k else call_selected P (option_and_then (selected P named) (super_of P own.«class»))))) LT (operand_tys own (a.args ++ (t ∷ us)))) (sym is_callee)
-            (receiver P facts own F G h0 Q s owed callee (λ kind. if is_initialiser callee || is_private callee.flags || callee.«class» == own.«class» then Rattle.nr_heap.specs.CallRules.call P named k else call_selected P (option_and_then (selected P named) (super_of P own.«class»))) a.args us t own.«class» a.count r (λ e n p.
-            if_fits P facts own F G h0 Q (is_initialiser callee || is_private callee.flags || callee.«class» == own.«class») (Rattle.nr_heap.specs.CallRules.call P named k) (call_selected P (option_and_then (selected P named) (super_of P own.«class»))) LT (operand_tys own a.args ++ (Exact e n ∷ operand_tys own us))
+        special_fits k call code init r = subst (λ o. Fits P h0 Q (with_found o (λ i. on_receiver P i (λ kind. if is_initialiser i || is_private i.flags || i.«class» == own.«class» then Rattle.nr_model.specs.CallRules.call P named k else call_selected P (option_and_then (selected P named) (super_of P own.«class»))))) LT (operand_tys own (a.args ++ (t ∷ us)))) (sym is_callee)
+            (receiver P facts own F G h0 Q s owed callee (λ kind. if is_initialiser callee || is_private callee.flags || callee.«class» == own.«class» then Rattle.nr_model.specs.CallRules.call P named k else call_selected P (option_and_then (selected P named) (super_of P own.«class»))) a.args us t own.«class» a.count r (λ e n p.
+            if_fits P facts own F G h0 Q (is_initialiser callee || is_private callee.flags || callee.«class» == own.«class») (Rattle.nr_model.specs.CallRules.call P named k) (call_selected P (option_and_then (selected P named) (super_of P own.«class»))) LT (operand_tys own a.args ++ (Exact e n ∷ operand_tys own us))
             (λ z. by_body k (operand_tys own a.args ++ (Exact e n ∷ operand_tys own us))
             (λ body is_body. call_object named callee body is_callee is_body same_self e n (itself e p (one_of_three (is_initialiser callee) (is_private callee.flags) (callee.«class» == own.«class») z)))
             (λ r none x. absurd (no_built_in init k r none x)))

@@ -18,9 +18,9 @@ use Rattle.nr_linked.specs.TypingFrames.{of_base}
 use Rattle.nr_linked.specs.TypingArrays.{is_array_with, loaded_type}
 use Rattle.nr_linked.specs.ArrayKinds.{Elements, Of, Bytes, References, is_base, is_element}
 use Rattle.nr_linked.specs.TypingFacts.{TypingFacts}
-use Rattle.nr_heap.specs.declared.value.Value.TheVariants.{Int}
-use Rattle.nr_heap.specs.Heaps.{Heap, on_some}
-use Rattle.nr_heap.specs.ArrayRules.{narrowed}
+use Rattle.nr_model.specs.declared.value.Value.TheVariants.{Int}
+use Rattle.nr_model.specs.Heaps.{Heap, on_some}
+use Rattle.nr_model.specs.ArrayRules.{narrowed}
 use Rattle.nr_typed.specs.Types.{Anything, Word, Nullable, kept_base, kept_ty, ty_of}
 use Rattle.nr_typed.specs.Belonging.{Belongs, Sharper}
 use Rattle.nr_typed.specs.TypedHeaps.{Counts, IsObjectOf, slot_ty}

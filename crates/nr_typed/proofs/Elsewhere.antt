@@ -11,11 +11,11 @@ use Rattle.nr_linked.specs.Kinds.{class_kind}
 use Rattle.nr_linked.specs.Subtypes.{is_assignable}
 use Rattle.nr_linked.specs.TypingFrames.{TypeFrame}
 use Rattle.nr_linked.specs.TypingCalls.{class_made_at}
-use Rattle.nr_heap.specs.declared.value.Value.{Value}
-use Rattle.nr_heap.specs.declared.value.Value.TheVariants.{Int, Long, Null, Ref}
-use Rattle.nr_heap.specs.Heaps.{Heap, on_some}
-use Rattle.nr_heap.specs.CallRules.{operands_of}
-use Rattle.nr_heap.specs.States.{Frame, Control, Running, Returned, Thrown, State}
+use Rattle.nr_model.specs.declared.value.Value.{Value}
+use Rattle.nr_model.specs.declared.value.Value.TheVariants.{Int, Long, Null, Ref}
+use Rattle.nr_model.specs.Heaps.{Heap, on_some}
+use Rattle.nr_model.specs.CallRules.{operands_of}
+use Rattle.nr_model.specs.States.{Frame, Control, Running, Returned, Thrown, State}
 use Rattle.nr_typed.specs.Types.{Ty, Anything, Word, AnInt, Small, ALong, JustNull, Nullable, Object, Just, Exact, kind_ty, ty_of, operand_tys, local_tys}
 use Rattle.nr_typed.specs.Belonging.{Belongs, Belong, no_place, one_place}
 use Rattle.nr_typed.specs.TypedHeaps.{TypedHeap, KeepsNames}

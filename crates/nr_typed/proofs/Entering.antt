@@ -13,10 +13,10 @@ use Rattle.nr_prog.specs.Members.{is_static}
 use Rattle.nr_linked.specs.TypingFrames.{of_base, of_kind, of_kinds, total_size, in_places, padded, this_type, comes_uninit, places_of, entry_frame}
 use Rattle.nr_linked.specs.TypingCalls.{class_made_at}
 use Rattle.nr_linked.specs.TypingFacts.{TypingFacts}
-use Rattle.nr_heap.specs.declared.value.Value.{Value}
-use Rattle.nr_heap.specs.declared.value.Value.TheVariants.{Int, Long, Null, Ref}
-use Rattle.nr_heap.specs.Heaps.{Heap, on_some}
-use Rattle.nr_heap.specs.Steps.{spread, first_locals}
+use Rattle.nr_model.specs.declared.value.Value.{Value}
+use Rattle.nr_model.specs.declared.value.Value.TheVariants.{Int, Long, Null, Ref}
+use Rattle.nr_model.specs.Heaps.{Heap, on_some}
+use Rattle.nr_model.specs.Steps.{spread, first_locals}
 use Rattle.nr_typed.specs.Types.{argument_tys, Ty, Anything, JustNull, Object, Just, kind_ty, kind_tys, ty_of, local_tys}
 use Rattle.nr_typed.specs.Belonging.{Belongs, Belong, no_place, one_place}
 use Rattle.nr_typed.proofs.Assigning.{by_kind}

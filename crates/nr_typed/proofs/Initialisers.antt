@@ -23,10 +23,10 @@ use Rattle.nr_linked.specs.Initialisers.{is_initialiser}
 use Rattle.nr_linked.specs.TypingChecks.{Leaves, leaves}
 use Rattle.nr_linked.specs.TypingCalls.{class_made, class_made_at, is_init_receiver, initialised_class, after_init}
 use Rattle.nr_linked.specs.TypingFacts.{TypingFacts, CallFacts, SiteFacts}
-use Rattle.nr_heap.specs.Heaps.{Heap, on_some}
-use Rattle.nr_heap.specs.Scripts.{Script, Drop, Within, Ending}
-use Rattle.nr_heap.specs.Throws.{with_found}
-use Rattle.nr_heap.specs.CallRules.{built_in_rule, call, call_selected, on_receiver, invoke_special}
+use Rattle.nr_model.specs.Heaps.{Heap, on_some}
+use Rattle.nr_model.specs.Scripts.{Script, Drop, Within, Ending}
+use Rattle.nr_model.specs.Throws.{with_found}
+use Rattle.nr_model.specs.CallRules.{built_in_rule, call, call_selected, on_receiver, invoke_special}
 use Rattle.nr_typed.specs.Types.{Ty, JustNull, Just, Exact, operand_tys, local_tys}
 use Rattle.nr_typed.specs.Fits.{OnNullness, Fits}
 use Rattle.nr_typed.proofs.Assigning.{yes, holds, never, or_cases, class_up}

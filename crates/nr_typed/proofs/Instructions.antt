@@ -21,11 +21,11 @@ use Rattle.nr_linked.specs.TypingChecks.{Leaves}
 use Rattle.nr_linked.specs.ArrayKinds.{Of, Bytes, References}
 use Rattle.nr_linked.specs.TypingRules.{type_op}
 use Rattle.nr_linked.specs.TypingFacts.{TypingFacts, SiteFacts}
-use Rattle.nr_heap.specs.Heaps.{Heap}
-use Rattle.nr_heap.specs.Scripts.{PlainInt, PlainLong, PlainNull, GoTo, Within, Ending}
-use Rattle.nr_heap.specs.Throws.{onward}
-use Rattle.nr_heap.specs.ValueRules as values
-use Rattle.nr_heap.specs.Rules.{script}
+use Rattle.nr_model.specs.Heaps.{Heap}
+use Rattle.nr_model.specs.Scripts.{PlainInt, PlainLong, PlainNull, GoTo, Within, Ending}
+use Rattle.nr_model.specs.Throws.{onward}
+use Rattle.nr_model.specs.ValueRules as values
+use Rattle.nr_model.specs.Rules.{script}
 use Rattle.nr_typed.specs.Types.{operand_tys, local_tys}
 use Rattle.nr_typed.specs.Fits.{Fits}
 use Rattle.nr_typed.proofs.Assigning.{yes}

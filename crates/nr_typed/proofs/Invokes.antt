@@ -19,10 +19,10 @@ use Rattle.nr_linked.specs.Initialisers.{is_initialiser}
 use Rattle.nr_linked.specs.TypingChecks.{Checked, Leaves, take_that, take_for, leaves, leaves_operands}
 use Rattle.nr_linked.specs.TypingCalls.{with_result, with_callee, call_on, call_static, call_init, call_rule, is_init_receiver, after_init, invoke_rule}
 use Rattle.nr_linked.specs.TypingFacts.{TypingFacts, CallFacts, SiteFacts}
-use Rattle.nr_heap.specs.Heaps.{Heap}
-use Rattle.nr_heap.specs.Scripts.{Script, Within, Ending}
-use Rattle.nr_heap.specs.CallRules.{call, invoke_virtual, invoke_interface, invoke_special}
-use Rattle.nr_heap.specs.Rules as rules
+use Rattle.nr_model.specs.Heaps.{Heap}
+use Rattle.nr_model.specs.Scripts.{Script, Within, Ending}
+use Rattle.nr_model.specs.CallRules.{call, invoke_virtual, invoke_interface, invoke_special}
+use Rattle.nr_model.specs.Rules as rules
 use Rattle.nr_typed.specs.Types.{Ty, operand_tys, local_tys}
 use Rattle.nr_typed.specs.Fits.{Fits}
 use Rattle.nr_typed.proofs.Checks.{no_rule, inv_that}

@@ -26,7 +26,6 @@ pub mod Elsewhere
 pub mod Asking
 pub mod Remote
 pub mod Unique
-pub mod Staying
 pub mod Copying
 pub mod Restoring
 pub mod LocalAnswers

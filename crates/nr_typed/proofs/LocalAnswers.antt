@@ -10,26 +10,29 @@ use Rattle.nr_linked.specs.Programs.{method_at, result_of}
 use Rattle.nr_linked.specs.Sites.{site_at}
 use Rattle.nr_linked.specs.TypingFacts.{TypingFacts}
 use Rattle.nr_linked.specs.WellTyped.{WellTyped}
-use Rattle.nr_heap.specs.declared.value.Value.{Value}
-use Rattle.nr_heap.specs.Heaps.{Heap, on_some}
-use Rattle.nr_heap.specs.Scripts.{Call, Wp}
-use Rattle.nr_heap.specs.Throws.{throw_new, with_found, onward}
-use Rattle.nr_heap.specs.CallRules.{built_in_rule, operands_of}
-use Rattle.nr_heap.specs.Rules.{rule, invoke_rule, script}
-use Rattle.nr_heap.specs.States.{Returned, State}
-use Rattle.nr_heap.specs.Steps.{within}
-use Rattle.nr_heap.specs.Locals.{start_of, Local}
-use Rattle.nr_heap.specs.Asks.{Asks, asked_args, waiting, Faulted, Entry, AnswerStep, AskStep, AskRun, arrived, own, asked}
-use Rattle.nr_heap.specs.LocalEntries.{IsFaulted, IsOwn, Fated, AllFated}
+use Rattle.nr_model.specs.declared.value.Value.{Value}
+use Rattle.nr_model.specs.Heaps.{Heap, on_some}
+use Rattle.nr_model.specs.Scripts.{Call, Wp}
+use Rattle.nr_model.specs.Throws.{throw_new, with_found, onward}
+use Rattle.nr_model.specs.CallRules.{built_in_rule, operands_of}
+use Rattle.nr_model.specs.Rules.{rule, invoke_rule, script}
+use Rattle.nr_model.specs.States.{Returned, State}
+use Rattle.nr_model.specs.Steps.{within}
+use Rattle.nr_model.specs.Locals.{start_of, Local}
+use Rattle.nr_model.specs.Asks.{Asks, asked_args, waiting, Faulted, Entry, AnswerStep, AskStep, AskRun, arrived, own, asked}
+use Rattle.nr_model.specs.LocalEntries.{IsFaulted, IsOwn, Fated, AllFated}
 use Rattle.nr_typed.specs.Types.{argument_tys}
 use Rattle.nr_typed.specs.Belonging.{Belong}
-use Rattle.nr_typed.specs.TypedHeaps.{TypedHeap, Stays, KeepsNames}
+use Rattle.nr_model.specs.Staying.{Stays}
+use Rattle.nr_typed.specs.TypedHeaps.{TypedHeap, KeepsNames}
 use Rattle.nr_typed.specs.Standing.{IsResult, ControlStands, StandsIn}
-use Rattle.nr_typed.specs.TypedAnswers.{CanBeThrown, IsTypedAnswer, IsTypedEntry, IsRestored}
-use Rattle.nr_typed.proofs.Typed.{some_of, stays_on}
+use Rattle.nr_model.specs.LocalEntries.{IsRestored}
+use Rattle.nr_typed.specs.TypedAnswers.{CanBeThrown, IsTypedAnswer, IsTypedEntry}
+use Rattle.nr_model.proofs.Staying.{stays_on}
+use Rattle.nr_typed.proofs.Typed.{some_of}
 use Rattle.nr_typed.proofs.Steps.{some_both, frames}
 use Rattle.nr_typed.proofs.Progress.{Owes, step_owes, first_state_stands, runs_stand, preservation}
-use Rattle.nr_typed.proofs.Staying.{run_stays}
+use Rattle.nr_model.proofs.Staying.{run_stays}
 use Rattle.nr_typed.proofs.Copying.{copies_stay, copies_typed, arguments_copied}
 use Rattle.nr_typed.proofs.Restoring.{restored_typed, restored_keeps, restored_result}
 use Rattle.nr_typed.proofs.Asking.{stands, called_result, asked_stands}

@@ -11,9 +11,9 @@ use Rattle.nr_linked.specs.TypingChecks.{Checked, Leaves, take_single, leaves_op
 use Rattle.nr_linked.specs.TypingMoves.{by_size, dup_rule, dup_x1_rule, dup_x2_rule, dup2_rule, dup2_x1_rule, dup2_x2_rule, swap_rule}
 use Rattle.nr_linked.specs.TypingCalls.{class_made_at}
 use Rattle.nr_linked.specs.TypingFacts.{TypingFacts}
-use Rattle.nr_heap.specs.Heaps.{Heap, on_some}
-use Rattle.nr_heap.specs.Scripts.{Script, Drop, Within, Ending}
-use Rattle.nr_heap.specs.ValueRules as scripts
+use Rattle.nr_model.specs.Heaps.{Heap, on_some}
+use Rattle.nr_model.specs.Scripts.{Script, Drop, Within, Ending}
+use Rattle.nr_model.specs.ValueRules as scripts
 use Rattle.nr_typed.specs.Types.{Ty, Word, JustNull, Just, ty_of, operand_tys, local_tys}
 use Rattle.nr_typed.specs.Fits.{OnSize, Fits}
 use Rattle.nr_typed.proofs.Checks.{inv_single, inv_size}

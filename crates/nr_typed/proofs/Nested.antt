@@ -15,10 +15,10 @@ use Rattle.nr_linked.specs.TypingFrames.{TypeFrame}
 use Rattle.nr_linked.specs.TypingChecks.{Checked, Leaves, take_ints, leaves_operands}
 use Rattle.nr_linked.specs.TypingArrays.{made_of_counts}
 use Rattle.nr_linked.specs.TypingFacts.{TypingFacts}
-use Rattle.nr_heap.specs.Heaps.{Heap}
-use Rattle.nr_heap.specs.Scripts.{Script, WriteSlot, Within, Ending}
-use Rattle.nr_heap.specs.Throws.{throw_new}
-use Rattle.nr_heap.specs.ArrayRules.{with_counts, fill, nested, new_arrays}
+use Rattle.nr_model.specs.Heaps.{Heap}
+use Rattle.nr_model.specs.Scripts.{Script, WriteSlot, Within, Ending}
+use Rattle.nr_model.specs.Throws.{throw_new}
+use Rattle.nr_model.specs.ArrayRules.{with_counts, fill, nested, new_arrays}
 use Rattle.nr_typed.specs.Types.{Ty, AnInt, Nullable, Exact, kept_ty, kept_base, operand_tys, local_tys}
 use Rattle.nr_typed.specs.Belonging.{Belongs, Sharper}
 use Rattle.nr_typed.specs.TypedHeaps.{slot_ty}

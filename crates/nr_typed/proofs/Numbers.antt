@@ -21,10 +21,10 @@ use Rattle.nr_linked.specs.TypingChecks.{Checked, Leaves, need, is_letter, wante
 use Rattle.nr_linked.specs.TypingLocals.{local_type, put, is_in_range, load_rule, store_rule, increment_rule}
 use Rattle.nr_linked.specs.TypingCalls.{class_made_at, is_return_of, take_result, return_rule}
 use Rattle.nr_linked.specs.TypingFacts.{TypingFacts}
-use Rattle.nr_heap.specs.Heaps.{Heap, on_some}
-use Rattle.nr_heap.specs.Scripts.{Plain, plain, PlainInt, PlainLong, Script, GoTo, Return, ReturnTop, Push, PopInt, PopLong, Store, Drop, AskNull, AskSame, Within, Ending}
-use Rattle.nr_heap.specs.Throws.{typed}
-use Rattle.nr_heap.specs.ValueRules.{load, store, increment, on_ints, on_longs, not_zero, branch, target_at, target_of}
+use Rattle.nr_model.specs.Heaps.{Heap, on_some}
+use Rattle.nr_model.specs.Scripts.{Plain, plain, PlainInt, PlainLong, Script, GoTo, Return, ReturnTop, Push, PopInt, PopLong, Store, Drop, AskNull, AskSame, Within, Ending}
+use Rattle.nr_model.specs.Throws.{typed}
+use Rattle.nr_model.specs.ValueRules.{load, store, increment, on_ints, on_longs, not_zero, branch, target_at, target_of}
 use Rattle.nr_typed.specs.Types.{Ty, Anything, Word, AnInt, ALong, JustNull, Object, Just, ty_of, operand_tys, local_tys}
 use Rattle.nr_typed.specs.Belonging.{Belongs}
 use Rattle.nr_typed.specs.Fits.{OnNullness, Fits}

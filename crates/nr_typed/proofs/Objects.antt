@@ -25,13 +25,13 @@ use Rattle.nr_linked.specs.TypingChecks.{Checked, Leaves, take_that, leaves_oper
 use Rattle.nr_linked.specs.TypingObjects.{with_slot, get_slot_rule, put_slot_rule, is_put_receiver, get_field_rule, put_field_rule, holds_made_at, forgotten, new_rule, test_rule, throwable_type, throw_rule}
 use Rattle.nr_linked.specs.TypingCalls.{class_made_at}
 use Rattle.nr_linked.specs.TypingFacts.{TypingFacts, is_makeable}
-use Rattle.nr_heap.specs.declared.value.Value.{Value}
-use Rattle.nr_heap.specs.declared.value.Value.TheVariants.{Int, Long, Null, Ref}
-use Rattle.nr_heap.specs.Heaps.{Heap, on_some}
-use Rattle.nr_heap.specs.Scripts.{PlainInt, Script, Throw, Push, PopInt, AskKind, ReadSlot, WriteSlot, Within, Ending, Threw}
-use Rattle.nr_heap.specs.Throws.{zeros, throw_new, not_null, typed, with_found, which}
-use Rattle.nr_heap.specs.ArrayRules.{narrowed}
-use Rattle.nr_heap.specs.ObjectRules.{has_fields_of, get_field, kept_as, put_field, new_of, throw_top, check_cast, instance_of, answer}
+use Rattle.nr_model.specs.declared.value.Value.{Value}
+use Rattle.nr_model.specs.declared.value.Value.TheVariants.{Int, Long, Null, Ref}
+use Rattle.nr_model.specs.Heaps.{Heap, on_some}
+use Rattle.nr_model.specs.Scripts.{PlainInt, Script, Throw, Push, PopInt, AskKind, ReadSlot, WriteSlot, Within, Ending, Threw}
+use Rattle.nr_model.specs.Throws.{zeros, throw_new, not_null, typed, with_found, which}
+use Rattle.nr_model.specs.ArrayRules.{narrowed}
+use Rattle.nr_model.specs.ObjectRules.{has_fields_of, get_field, kept_as, put_field, new_of, throw_top, check_cast, instance_of, answer}
 use Rattle.nr_typed.specs.Types.{Ty, Word, AnInt, Small, ALong, JustNull, Nullable, Object, Just, Exact, kind_ty, kept_base, kept_ty, ty_of, operand_tys, local_tys}
 use Rattle.nr_typed.specs.Belonging.{Belongs, Belong, one_place, Sharper}
 use Rattle.nr_typed.specs.TypedHeaps.{Counts, slot_ty}

@@ -29,15 +29,16 @@ use Rattle.nr_linked.specs.TypingChecks.{Leaves, is_letter, leaves, leaves_opera
 use Rattle.nr_linked.specs.TypingCalls.{class_made_at}
 use Rattle.nr_linked.specs.TypingFacts.{TypingFacts, is_thrown}
 use Rattle.nr_linked.specs.WellTyped.{falls_through, targets_of}
-use Rattle.nr_heap.specs.declared.value.Value.{Value}
-use Rattle.nr_heap.specs.declared.value.Value.TheVariants.{Int, Long, Null, Ref}
-use Rattle.nr_heap.specs.Heaps.{Heap, on_some}
-use Rattle.nr_heap.specs.Scripts.{Plain, plain, Script, GoTo, Throw, AskNull, Within, Ending, Threw, Gave, Called, OnRef}
-use Rattle.nr_heap.specs.Throws.{zero_of, zeros, throw_new, typed, onward}
-use Rattle.nr_heap.specs.CallRules.{operands_of}
+use Rattle.nr_model.specs.declared.value.Value.{Value}
+use Rattle.nr_model.specs.declared.value.Value.TheVariants.{Int, Long, Null, Ref}
+use Rattle.nr_model.specs.Heaps.{Heap, on_some}
+use Rattle.nr_model.specs.Scripts.{Plain, plain, Script, GoTo, Throw, AskNull, Within, Ending, Threw, Gave, Called, OnRef}
+use Rattle.nr_model.specs.Throws.{zero_of, zeros, throw_new, typed, onward}
+use Rattle.nr_model.specs.CallRules.{operands_of}
 use Rattle.nr_typed.specs.Types.{Ty, Anything, Word, AnInt, ALong, JustNull, Nullable, Object, Just, argument_tys, kind_ty, kept_ty, ty_of, operand_tys, local_tys}
 use Rattle.nr_typed.specs.Belonging.{Belongs, Belong, one_place, Sharper, AllSharper, InRange}
-use Rattle.nr_typed.specs.TypedHeaps.{slot_ty, TypedHeap, Stays}
+use Rattle.nr_model.specs.Staying.{Stays}
+use Rattle.nr_typed.specs.TypedHeaps.{slot_ty, TypedHeap}
 use Rattle.nr_typed.specs.Fits.{OnNullness, Fits}
 use Rattle.nr_typed.specs.Standing.{throwable, SameNameAndDescriptor}
 use Rattle.nr_typed.proofs.Assigning.{yes, by_kind, class_up}

@@ -20,22 +20,24 @@ use Rattle.nr_linked.specs.TypingFrames.{TypeFrame, entry_frame}
 use Rattle.nr_linked.specs.TypingCalls as typing
 use Rattle.nr_linked.specs.TypingFacts.{TypingFacts, SiteFacts}
 use Rattle.nr_linked.specs.WellTyped.{falls_through, ComesTo, Onward, SiteTyped, WellTyped}
-use Rattle.nr_heap.specs.declared.value.Value.{Value}
-use Rattle.nr_heap.specs.declared.value.Value.TheVariants.{Ref}
-use Rattle.nr_heap.specs.Heaps.{Obj, Heap}
-use Rattle.nr_heap.specs.Scripts.{GoTo, Within, Ending, GoesTo, Threw, Gave, Called, Wp}
-use Rattle.nr_heap.specs.Throws.{onward}
-use Rattle.nr_heap.specs.CallRules.{operands_of}
-use Rattle.nr_heap.specs.Rules.{script}
-use Rattle.nr_heap.specs.States.{Frame, Control, Running, Returned, Thrown, State, IsEnd}
-use Rattle.nr_heap.specs.Steps.{unwound, next_offset, with_result, given, first_frame, script_at, within, after, StepBy, StepOf, Step, Run}
+use Rattle.nr_model.specs.declared.value.Value.{Value}
+use Rattle.nr_model.specs.declared.value.Value.TheVariants.{Ref}
+use Rattle.nr_model.specs.Heaps.{Obj, Heap}
+use Rattle.nr_model.specs.Scripts.{GoTo, Within, Ending, GoesTo, Threw, Gave, Called, Wp}
+use Rattle.nr_model.specs.Throws.{onward}
+use Rattle.nr_model.specs.CallRules.{operands_of}
+use Rattle.nr_model.specs.Rules.{script}
+use Rattle.nr_model.specs.States.{Frame, Control, Running, Returned, Thrown, State, IsEnd}
+use Rattle.nr_model.specs.Steps.{unwound, next_offset, with_result, given, first_frame, script_at, within, after, StepBy, StepOf, Step, Run}
 use Rattle.nr_typed.specs.Types.{argument_tys, Word, operand_tys, local_tys}
 use Rattle.nr_typed.specs.Belonging.{Belongs, Belong, no_place, one_place}
-use Rattle.nr_typed.specs.TypedHeaps.{TypedHeap, Stays}
+use Rattle.nr_model.specs.Staying.{Stays}
+use Rattle.nr_typed.specs.TypedHeaps.{TypedHeap}
 use Rattle.nr_typed.specs.Fits.{Fits}
 use Rattle.nr_typed.specs.Standing.{Stands, Waits, AllWait, AllStand, IsResult, throwable, ControlStands, StandsIn}
 use Rattle.nr_typed.proofs.Wp.{runs, ends_so}
-use Rattle.nr_typed.proofs.Typed.{some_of, stays_self, sound}
+use Rattle.nr_model.proofs.Staying.{stays_self}
+use Rattle.nr_typed.proofs.Typed.{some_of, sound}
 use Rattle.nr_typed.proofs.Belongs.{kind_same}
 use Rattle.nr_typed.proofs.Owed.{Goes, Owed}
 use Rattle.nr_typed.proofs.Instructions.{instruction_fits}

@@ -17,11 +17,11 @@ use Rattle.nr_linked.specs.Subtypes.{is_assignable}
 use Rattle.nr_linked.specs.TypingFrames.{TypeFrame, of_kind, of_kinds, is_operand_assignable, operands_fit}
 use Rattle.nr_linked.specs.TypingChecks.{Checked, Leaves, take_kinds}
 use Rattle.nr_linked.specs.TypingFacts.{TypingFacts}
-use Rattle.nr_heap.specs.declared.value.Value.{Value}
-use Rattle.nr_heap.specs.Heaps.{Heap}
-use Rattle.nr_heap.specs.Scripts.{Script, Call, AskNull, AskKind, Within, Ending}
-use Rattle.nr_heap.specs.Throws.{throw_new}
-use Rattle.nr_heap.specs.CallRules.{operands_of, on_receiver}
+use Rattle.nr_model.specs.declared.value.Value.{Value}
+use Rattle.nr_model.specs.Heaps.{Heap}
+use Rattle.nr_model.specs.Scripts.{Script, Call, AskNull, AskKind, Within, Ending}
+use Rattle.nr_model.specs.Throws.{throw_new}
+use Rattle.nr_model.specs.CallRules.{operands_of, on_receiver}
 use Rattle.nr_typed.specs.Types.{argument_tys, Ty, Word, JustNull, Nullable, Object, Just, Exact, kind_tys, ty_of, operand_tys, local_tys}
 use Rattle.nr_typed.specs.Belonging.{Belongs, Belong, no_place, one_place, AllSharper}
 use Rattle.nr_typed.specs.TypedHeaps.{Counts}

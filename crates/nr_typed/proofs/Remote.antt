@@ -13,10 +13,10 @@ use Rattle.nr_linked.specs.Programs.{method_at}
 use Rattle.nr_linked.specs.Sites.{Site, site_at}
 use Rattle.nr_linked.specs.TypingFacts.{TypingFacts}
 use Rattle.nr_linked.specs.WellTyped.{WellTyped}
-use Rattle.nr_heap.specs.CallRules.{operands_of}
-use Rattle.nr_heap.specs.States.{Frame, Control, Running, Returned, Thrown, State, IsEnd}
-use Rattle.nr_heap.specs.Steps.{Step}
-use Rattle.nr_heap.specs.Asks.{is_remote, Asks}
+use Rattle.nr_model.specs.CallRules.{operands_of}
+use Rattle.nr_model.specs.States.{Frame, Control, Running, Returned, Thrown, State, IsEnd}
+use Rattle.nr_model.specs.Steps.{Step}
+use Rattle.nr_model.specs.Asks.{is_remote, Asks}
 use Rattle.nr_typed.specs.Standing.{AllStand, ControlStands, StandsIn}
 use Rattle.nr_typed.proofs.Steps.{some_both, none_some, frames}
 use Rattle.nr_typed.proofs.Progress.{progress}

@@ -5,14 +5,14 @@ use Rattle.std.specs.FinMap.{get}
 use Rattle.nr_linked.specs.declared.program.kind.Kind.{Kind}
 use Rattle.nr_linked.specs.declared.program.tables.ProgramTables.{ProgramTables}
 use Rattle.nr_linked.specs.Subtypes.{is_assignable}
-use Rattle.nr_heap.specs.declared.value.Value.{Value}
-use Rattle.nr_heap.specs.Heaps.{Obj, Heap}
-use Rattle.nr_heap.specs.Alike.{Like, like_int, like_long, like_null, like_ref, AllLike, no_more, one_more, AlikeObj, AlikeAt, alike_at, AlikeResult, no_result, one_result}
-use Rattle.nr_heap.specs.Pairs.{IsPair}
-use Rattle.nr_heap.specs.Same.{OldAndResults, Same}
-use Rattle.nr_heap.proofs.Matchings.{Matched}
-use Rattle.nr_heap.proofs.Paths.{paired_matched}
-use Rattle.nr_heap.proofs.Kept.{result_match}
+use Rattle.nr_model.specs.declared.value.Value.{Value}
+use Rattle.nr_model.specs.Heaps.{Obj, Heap}
+use Rattle.nr_model.specs.Alike.{Like, like_int, like_long, like_null, like_ref, AllLike, no_more, one_more, AlikeObj, AlikeAt, alike_at, AlikeResult, no_result, one_result}
+use Rattle.nr_model.specs.Pairs.{IsPair}
+use Rattle.nr_model.specs.Same.{OldAndResults, Same}
+use Rattle.nr_model.proofs.Matchings.{Matched}
+use Rattle.nr_model.proofs.Paths.{paired_matched}
+use Rattle.nr_model.proofs.Kept.{result_match}
 use Rattle.nr_typed.specs.Types.{Ty, Anything, Word, AnInt, Small, ALong, JustNull, Nullable, Object, Just, Exact, kind_ty}
 use Rattle.nr_typed.specs.Belonging.{Belongs}
 use Rattle.nr_typed.specs.TypedHeaps.{Counts, slot_ty, TypedHeap, KeepsNames}

@@ -19,9 +19,9 @@ use Rattle.nr_linked.specs.TypingChecks.{Leaves, take_that, take_for, leaves, le
 use Rattle.nr_linked.specs.TypingCalls.{with_result, with_callee, call_on, call_static, call_init, call_rule, is_init_receiver, initialised_class, initialised, after_init, invoke_rule}
 use Rattle.nr_linked.specs.TypingRules.{family_rule, type_op}
 use Rattle.nr_linked.specs.TypingFacts.{TypingFacts, CallFacts, SiteFacts}
-use Rattle.nr_heap.specs.Heaps.{Heap}
-use Rattle.nr_heap.specs.Scripts.{Within, Ending}
-use Rattle.nr_heap.specs.CallRules.{operands_of}
+use Rattle.nr_model.specs.Heaps.{Heap}
+use Rattle.nr_model.specs.Scripts.{Within, Ending}
+use Rattle.nr_model.specs.CallRules.{operands_of}
 use Rattle.nr_typed.specs.Types.{operand_tys, local_tys}
 use Rattle.nr_typed.specs.Belonging.{Belong, AllSharper}
 use Rattle.nr_typed.proofs.Checks.{inv_that, inv_leaves}

@@ -31,13 +31,13 @@ use Rattle.nr_linked.specs.TypingCalls.{class_made, class_made_at}
 use Rattle.nr_linked.specs.TypingRules.{iinc_rule}
 use Rattle.nr_linked.specs.TypingFacts.{TypingFacts, SiteFacts, is_shaped, is_constant}
 use Rattle.nr_linked.specs.WellTyped.{targets_of}
-use Rattle.nr_heap.specs.Heaps.{Heap}
-use Rattle.nr_heap.specs.Scripts.{PlainInt, PlainLong, Script, GoTo, Within, Ending}
-use Rattle.nr_heap.specs.Throws.{with_found}
-use Rattle.nr_heap.specs.ValueRules.{small_constant, pool_constant, load, store, target_at, target_of}
-use Rattle.nr_heap.specs.ArrayRules.{new_array}
-use Rattle.nr_heap.specs.ObjectRules.{get_field, put_field, new_of, check_cast, instance_of}
-use Rattle.nr_heap.specs.Rules as rules
+use Rattle.nr_model.specs.Heaps.{Heap}
+use Rattle.nr_model.specs.Scripts.{PlainInt, PlainLong, Script, GoTo, Within, Ending}
+use Rattle.nr_model.specs.Throws.{with_found}
+use Rattle.nr_model.specs.ValueRules.{small_constant, pool_constant, load, store, target_at, target_of}
+use Rattle.nr_model.specs.ArrayRules.{new_array}
+use Rattle.nr_model.specs.ObjectRules.{get_field, put_field, new_of, check_cast, instance_of}
+use Rattle.nr_model.specs.Rules as rules
 use Rattle.nr_typed.specs.Types.{Ty, operand_tys, local_tys}
 use Rattle.nr_typed.specs.Fits.{Fits}
 use Rattle.nr_typed.proofs.Assigning.{yes}

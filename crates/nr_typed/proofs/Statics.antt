@@ -26,12 +26,12 @@ use Rattle.nr_linked.specs.TypingChecks.{Leaves, leaves_operands}
 use Rattle.nr_linked.specs.TypingCalls.{with_result}
 use Rattle.nr_linked.specs.ArrayKinds.{Of}
 use Rattle.nr_linked.specs.TypingFacts.{TypingFacts, CallFacts}
-use Rattle.nr_heap.specs.Heaps.{Heap}
-use Rattle.nr_heap.specs.Scripts.{Script, Call, PopInt, PopLong, Drop, AskKind, Print, Within, Ending}
-use Rattle.nr_heap.specs.Throws.{with_found, which}
+use Rattle.nr_model.specs.Heaps.{Heap}
+use Rattle.nr_model.specs.Scripts.{Script, Call, PopInt, PopLong, Drop, AskKind, Print, Within, Ending}
+use Rattle.nr_model.specs.Throws.{with_found, which}
 use Rattle.nr_linked.specs.ArrayKinds.{is_base}
-use Rattle.nr_heap.specs.Printing.{bytes_of_units}
-use Rattle.nr_heap.specs.CallRules.{operands_of, with_units, print_chars, out_rule, built_in_rule, call}
+use Rattle.nr_model.specs.Printing.{bytes_of_units}
+use Rattle.nr_model.specs.CallRules.{operands_of, with_units, print_chars, out_rule, built_in_rule, call}
 use Rattle.nr_typed.specs.Types.{argument_tys, Ty, Word, Small, Object, Exact, kind_tys, ty_of, operand_tys, local_tys, kept_ty}
 use Rattle.nr_typed.specs.Belonging.{AllSharper}
 use Rattle.nr_typed.specs.TypedHeaps.{slot_ty}

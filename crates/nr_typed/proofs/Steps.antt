@@ -21,13 +21,13 @@ use Rattle.nr_linked.specs.TypingFrames.{TypeFrame, locals_fit, operands_fit, fr
 use Rattle.nr_linked.specs.TypingFacts.{TypingFacts}
 use Rattle.nr_linked.specs.WellTyped.{map_at, frame_among, frame_at, Comes, ComesTo, FitsMap, caught_type, with_catches, catchers, handler_frame, MethodTyped, WellTyped}
 use Rattle.nr_linked.specs.Handlers.{covers}
-use Rattle.nr_heap.specs.declared.value.Value.TheVariants.{Ref}
-use Rattle.nr_heap.specs.Heaps.{Obj, Heap, on_some}
-use Rattle.nr_heap.specs.States.{Frame, Running}
-use Rattle.nr_heap.specs.Steps.{catches, first_handler, handler_at, unwound}
+use Rattle.nr_model.specs.declared.value.Value.TheVariants.{Ref}
+use Rattle.nr_model.specs.Heaps.{Obj, Heap, on_some}
+use Rattle.nr_model.specs.States.{Frame, Running}
+use Rattle.nr_model.specs.Steps.{catches, first_handler, handler_at, unwound}
 use Rattle.nr_typed.specs.Types.{Word, ty_of, operand_tys, local_tys}
 use Rattle.nr_typed.specs.Belonging.{Belongs, Belong, no_place, one_place, AllSharper}
-use Rattle.nr_typed.specs.TypedHeaps.{Stays}
+use Rattle.nr_model.specs.Staying.{Stays}
 use Rattle.nr_typed.specs.Standing.{Holds, Stands, Waits, AllWait, ControlStands}
 use Rattle.nr_typed.proofs.Typed.{some_of, at_some, all_on}
 use Rattle.nr_typed.proofs.Assigning.{yes, holds, and_both, sub_assignable}

@@ -7,14 +7,16 @@ use Rattle.std.specs.FinMap.{get, insert}
 use Rattle.nr_linked.specs.declared.program.kind.Kind.{Kind}
 use Rattle.nr_linked.specs.declared.program.tables.ProgramTables.{ProgramTables}
 use Rattle.nr_linked.specs.Subtypes.{is_assignable}
-use Rattle.nr_heap.specs.declared.value.Value.{Value}
-use Rattle.nr_heap.specs.declared.value.Value.TheVariants.{Int, Long, Null, Ref}
-use Rattle.nr_heap.specs.Heaps.{Obj, Heap}
-use Rattle.nr_heap.specs.Scripts.{Plain, plain, Script, GoTo, Throw, Return, ReturnTop, Call, Stuck, Push, PopInt, PopLong, Load, Store, Pick, Drop, AskLong, AskNull, AskSame, AskKind, ReadSlot, WriteSlot, Make, Print, Within, Ending, OnReference, is_long, is_null, is_same, without, new_object, with_slot, Wp}
-use Rattle.nr_heap.proofs.Heaps.{get_same, get_other}
+use Rattle.nr_model.specs.declared.value.Value.{Value}
+use Rattle.nr_model.specs.declared.value.Value.TheVariants.{Int, Long, Null, Ref}
+use Rattle.nr_model.specs.Heaps.{Obj, Heap}
+use Rattle.nr_model.specs.Scripts.{Plain, plain, Script, GoTo, Throw, Return, ReturnTop, Call, Stuck, Push, PopInt, PopLong, Load, Store, Pick, Drop, AskLong, AskNull, AskSame, AskKind, ReadSlot, WriteSlot, Make, Print, Within, Ending, OnReference, is_long, is_null, is_same, without, new_object, with_slot, Wp}
+use Rattle.nr_model.proofs.Heaps.{get_same, get_other}
 use Rattle.nr_typed.specs.Types.{Ty, Anything, Word, AnInt, Small, ALong, JustNull, Nullable, Object, Just, Exact}
 use Rattle.nr_typed.specs.Belonging.{Belongs, Belong, no_place, one_place, Sharper}
-use Rattle.nr_typed.specs.TypedHeaps.{Counts, slot_ty, TypedHeap, Stays}
+use Rattle.nr_model.specs.Staying.{Stays}
+use Rattle.nr_model.proofs.Staying.{stays_on, stays_write, stays_make}
+use Rattle.nr_typed.specs.TypedHeaps.{Counts, slot_ty, TypedHeap}
 use Rattle.nr_typed.specs.Fits.{OnTy, OnAnInt, OnALong, OnSize, OnNullness, OnKinds, OnExact, without_ty, Fits}
 
 pub some_of : {X : Type 0} (o : Option X) (P : X → Type 0) → IsSomeAnd o P → (x : X) × (o ≡ Some x) × P x
@@ -23,12 +25,6 @@ some_of (Some x) P p = (x, refl, p)
 
 pub at_some : {X : Type 0} (o : Option X) (x : X) (P : X → Type 0) → o ≡ Some x → P x → IsSomeAnd o P
 at_some o x P e p = rw e p
-
-pub stays_self : (h : Heap) → Stays h h
-stays_self h = record { at = λ a o e. (o, e, refl, refl) }
-
-pub stays_on : (h k l : Heap) → Stays h k → Stays k l → Stays h l
-stays_on h k l s t = record { at = λ a o e. let p = s.at a o e in let q = t.at a p.0 p.1 in (q.0, q.1, q.2 ∙ p.2, q.3 ∙ p.3) }
 
 module _ (P : ProgramTables) where
   pub belongs_on : (h k : Heap) → Stays h k → (t : Ty) (v : Value) → Belongs P h t v → Belongs P k t v
@@ -216,19 +212,6 @@ set_off (x ∷ xs) zero zero v n = absurd (n refl)
 set_off (x ∷ xs) zero (suc j) v n = refl
 set_off (x ∷ xs) (suc i) zero v n = refl
 set_off (x ∷ xs) (suc i) (suc j) v n = set_off xs i j v (λ e. n (ap suc e))
-
-module _ (h : Heap) (a : ℕ) (o p : Obj) (e : get h a ≡ Some o) (kind : p.kind ≡ o.kind) (len : length p.slots ≡ length o.slots) where
-  pub stays_write : Stays h (insert h a p)
-  stays_write = record { at = λ b q f. go b q f (ℕ_discrete b a) }
-    where
-      go : (b : ℕ) (q : Obj) → get h b ≡ Some q → Dec (b ≡ a) → (r : Obj) × (get (insert h a p) b ≡ Some r) × (r.kind ≡ q.kind) × (length r.slots ≡ length q.slots)
-      go b q f (yes d) =
-          let s : o ≡ q = same_obj (rw d e) f in
-          (p, rw d (get_same h a p), kind ∙ ap (λ o. o.kind) s, len ∙ ap (λ o. length o.slots) s)
-      go b q f (no n) = (q, get_other h a b p n ∙ f, refl, refl)
-
-pub stays_make : (h : Heap) (a : ℕ) (p : Obj) → get h a ≡ None → Stays h (insert h a p)
-stays_make h a p n = record { at = λ b q f. (q, get_other h a b p (λ e. not_both f (rw e n)) ∙ f, refl, refl) }
 
 pub plain_length : (ps : List Plain) → length (map plain ps) ≡ length ps
 plain_length ps = simp length-map

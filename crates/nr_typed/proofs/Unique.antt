@@ -18,8 +18,8 @@ use Rattle.nr_linked.specs.TypingChecks.{Checked, Leaves}
 use Rattle.nr_linked.specs.TypingRules.{type_op}
 use Rattle.nr_linked.specs.TypingFacts.{TypingFacts}
 use Rattle.nr_linked.specs.WellTyped.{falls_through, map_at, frame_among, frame_at, Comes, ComesTo, Onward, MethodTyped, WellTyped}
-use Rattle.nr_heap.specs.Heaps.{Heap}
-use Rattle.nr_heap.specs.States.{Frame, Control, Running, Returned, Thrown, State}
+use Rattle.nr_model.specs.Heaps.{Heap}
+use Rattle.nr_model.specs.States.{Frame, Control, Running, Returned, Thrown, State}
 use Rattle.nr_typed.specs.Standing.{Holds, AllWait, ControlStands, StandsIn}
 use Rattle.nr_typed.specs.Offsets.{RiseAbove, AreInOrder, CodeInOrder}
 use Rattle.nr_typed.proofs.Steps.{none_some, some_same}

@@ -15,16 +15,16 @@ use Rattle.nr_linked.specs.Subtypes.{is_assignable}
 use Rattle.nr_linked.specs.TypingFrames.{TypeFrame}
 use Rattle.nr_linked.specs.TypingFacts.{TypingFacts}
 use Rattle.nr_linked.specs.WellTyped.{WellTyped}
-use Rattle.nr_heap.specs.declared.value.Value.{Value}
-use Rattle.nr_heap.specs.declared.value.Value.TheVariants.{Int, Null, Ref}
-use Rattle.nr_heap.specs.Heaps.{Obj, Heap, on_some}
-use Rattle.nr_heap.specs.Scripts.{Within, Ending, GoesTo, Threw, Gave, Called}
-use Rattle.nr_heap.specs.CallRules.{operands_of}
-use Rattle.nr_heap.specs.States.{Frame, Control, Running, State}
-use Rattle.nr_heap.specs.Steps.{handler_at, unwound, next_offset, with_result, given, first_frame, after}
-use Rattle.nr_heap.specs.Alike.{like_ref, AllLike, no_more, one_more, AlikeAt, alike_at, AlikeResult, no_result, one_result}
-use Rattle.nr_heap.proofs.Matchings.{AlikeEnding, both_go, both_threw, both_gave, both_called}
-use Rattle.nr_heap.proofs.Frames.{locals_like}
+use Rattle.nr_model.specs.declared.value.Value.{Value}
+use Rattle.nr_model.specs.declared.value.Value.TheVariants.{Int, Null, Ref}
+use Rattle.nr_model.specs.Heaps.{Obj, Heap, on_some}
+use Rattle.nr_model.specs.Scripts.{Within, Ending, GoesTo, Threw, Gave, Called}
+use Rattle.nr_model.specs.CallRules.{operands_of}
+use Rattle.nr_model.specs.States.{Frame, Control, Running, State}
+use Rattle.nr_model.specs.Steps.{handler_at, unwound, next_offset, with_result, given, first_frame, after}
+use Rattle.nr_model.specs.Alike.{like_ref, AllLike, no_more, one_more, AlikeAt, alike_at, AlikeResult, no_result, one_result}
+use Rattle.nr_model.proofs.Matchings.{AlikeEnding, both_go, both_threw, both_gave, both_called}
+use Rattle.nr_model.proofs.Frames.{locals_like}
 use Rattle.nr_typed.specs.Types.{Ty, Object, argument_tys, kind_ty, kind_tys, operand_tys, local_tys}
 use Rattle.nr_typed.specs.Belonging.{Belong, NoLong}
 use Rattle.nr_typed.specs.TypedHeaps.{TypedHeap}

@@ -4,11 +4,11 @@ use Rattle.std.specs.Prelude.{Option}
 use Rattle.nr_linked.specs.declared.program.kind.Kind.{Kind}
 use Rattle.nr_linked.specs.declared.program.tables.ProgramTables.{ProgramTables}
 use Rattle.nr_linked.specs.TypingFrames.{TypeFrame}
-use Rattle.nr_heap.specs.Heaps.{Heap}
-use Rattle.nr_heap.specs.States.{Frame, Control, Running, Returned, Thrown, State}
-use Rattle.nr_heap.specs.Alike as alike
-use Rattle.nr_heap.specs.Pairs.{IsPair, InFrames, InControl, StartOf, PairedStates}
-use Rattle.nr_heap.proofs.Heaps.{sum_left}
+use Rattle.nr_model.specs.Heaps.{Heap}
+use Rattle.nr_model.specs.States.{Frame, Control, Running, Returned, Thrown, State}
+use Rattle.nr_model.specs.Alike as alike
+use Rattle.nr_model.specs.Pairs.{IsPair, InFrames, InControl, StartOf, PairedStates}
+use Rattle.nr_model.proofs.Heaps.{sum_left}
 use Rattle.nr_typed.specs.Standing.{AllWait, ControlStands, StandsIn}
 use Rattle.nr_typed.specs.Usable.{local_types, operand_types, UsableFrame, UsableFrames, no_frame, one_frame, UsableControl, both_run, both_return, both_throw, InUsableFrames, InUsableControl, UsableStart, UsablePaired}
 use Rattle.nr_typed.proofs.Blanks.{Fills, stands_fills, waits_fills, alike_usable}

@@ -6,24 +6,24 @@ use Rattle.nr_linked.specs.declared.program.tables.ProgramTables.{ProgramTables}
 use Rattle.nr_linked.specs.TypingFrames.{TypeFrame}
 use Rattle.nr_linked.specs.TypingFacts.{TypingFacts}
 use Rattle.nr_linked.specs.WellTyped.{WellTyped}
-use Rattle.nr_heap.specs.declared.value.Value.{Value}
-use Rattle.nr_heap.specs.Rules.{script}
-use Rattle.nr_heap.specs.States.{Frame, Control, State, IsEnd}
-use Rattle.nr_heap.specs.Steps.{script_at, within, StepBy, StepOf, Step, Run}
-use Rattle.nr_heap.specs.Alike.{Any}
-use Rattle.nr_heap.specs.Pairs.{name_at, IsPair}
-use Rattle.nr_heap.proofs.Matchings.{Matched, Moved}
-use Rattle.nr_heap.proofs.Heaps.{like_more, sum_left}
-use Rattle.nr_heap.proofs.Frames.{result_more}
-use Rattle.nr_heap.proofs.Paths.{paired_matched, matched_paired}
-use Rattle.nr_heap.proofs.Ends.{no_step}
-use Rattle.nr_heap.proofs.Kept.{like_match, like_names, result_match, result_names, start_pair}
+use Rattle.nr_model.specs.declared.value.Value.{Value}
+use Rattle.nr_model.specs.Rules.{script}
+use Rattle.nr_model.specs.States.{Frame, Control, State, IsEnd}
+use Rattle.nr_model.specs.Steps.{script_at, within, StepBy, StepOf, Step, Run}
+use Rattle.nr_model.specs.Alike.{Any}
+use Rattle.nr_model.specs.Pairs.{name_at, IsPair}
+use Rattle.nr_model.proofs.Matchings.{Matched, Moved}
+use Rattle.nr_model.proofs.Heaps.{like_more, sum_left}
+use Rattle.nr_model.proofs.Frames.{result_more}
+use Rattle.nr_model.proofs.Paths.{paired_matched, matched_paired}
+use Rattle.nr_model.proofs.Ends.{no_step}
+use Rattle.nr_model.proofs.Kept.{like_match, like_names, result_match, result_names, start_pair}
 use Rattle.nr_typed.specs.Types.{Ty, operand_tys, local_tys}
 use Rattle.nr_typed.specs.Belonging.{Belong}
 use Rattle.nr_typed.specs.TypedHeaps.{TypedHeap}
 use Rattle.nr_typed.specs.Standing.{Stands, AllWait, ControlStands, StandsIn}
 use Rattle.nr_typed.specs.Usable.{Usable, UsableLike, no_places, one_place, local_types, operand_types, UsableFrame, UsableFrames, no_frame, one_frame, UsableControl, both_run, both_return, both_throw, AtUsable, InUsableFrames, InUsableControl, UsableStart, UsablePaired}
-use Rattle.nr_typed.proofs.Typed.{stays_self}
+use Rattle.nr_model.proofs.Staying.{stays_self}
 use Rattle.nr_typed.proofs.Wp.{ends_so}
 use Rattle.nr_typed.proofs.Places.{Places, places_of}
 use Rattle.nr_typed.proofs.Agreeing.{Later, agreeing}

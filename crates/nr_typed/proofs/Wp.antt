@@ -2,10 +2,10 @@
 use Rattle.std.proofs.Common.{◌≡◌, ℕ, List, [], ◌∷◌, refl, sym, subst₂, length}
 use Rattle.std.specs.Prelude.{ℤ, Option, Some, None, IsSomeAnd, slice_get, slice_set}
 use Rattle.std.specs.FinMap.{get}
-use Rattle.nr_heap.specs.declared.value.Value.{Value}
-use Rattle.nr_heap.specs.declared.value.Value.TheVariants.{Int, Long, Null, Ref}
-use Rattle.nr_heap.specs.Scripts.{Script, GoTo, Throw, Return, ReturnTop, Call, Stuck, Push, PopInt, PopLong, Load, Store, Pick, Drop, AskLong, AskNull, AskSame, AskKind, ReadSlot, WriteSlot, Make, Print, Within, Ending, GoesTo, Threw, Gave, Called, OnTop, OnInt, OnLong, OnRef, OnReference, is_long, is_null, is_same, IsIn, with_slot, Runs, Wp}
-use Rattle.nr_heap.proofs.Mirror.{fresh}
+use Rattle.nr_model.specs.declared.value.Value.{Value}
+use Rattle.nr_model.specs.declared.value.Value.TheVariants.{Int, Long, Null, Ref}
+use Rattle.nr_model.specs.Scripts.{Script, GoTo, Throw, Return, ReturnTop, Call, Stuck, Push, PopInt, PopLong, Load, Store, Pick, Drop, AskLong, AskNull, AskSame, AskKind, ReadSlot, WriteSlot, Make, Print, Within, Ending, GoesTo, Threw, Gave, Called, OnTop, OnInt, OnLong, OnRef, OnReference, is_long, is_null, is_same, IsIn, with_slot, Runs, Wp}
+use Rattle.nr_model.proofs.Mirror.{fresh}
 
 -- a fact under a test passes to a weaker one
 module _ (Z : Type 0) where

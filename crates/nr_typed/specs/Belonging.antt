@@ -7,10 +7,10 @@ use Rattle.nr_linked.specs.declared.program.kind.Base.TheVariants as bases
 use Rattle.nr_linked.specs.declared.program.kind.Kind.{Kind}
 use Rattle.nr_linked.specs.declared.program.tables.ProgramTables.{ProgramTables}
 use Rattle.nr_linked.specs.Subtypes.{is_assignable}
-use Rattle.nr_heap.specs.declared.value.Value.{Value}
-use Rattle.nr_heap.specs.declared.value.Value.TheVariants.{Long, Null}
-use Rattle.nr_heap.specs.Heaps.{Heap}
-use Rattle.nr_heap.specs.Scripts.{OnInt, OnLong, OnRef, OnReference}
+use Rattle.nr_model.specs.declared.value.Value.{Value}
+use Rattle.nr_model.specs.declared.value.Value.TheVariants.{Long, Null}
+use Rattle.nr_model.specs.Heaps.{Heap}
+use Rattle.nr_model.specs.Scripts.{OnInt, OnLong, OnRef, OnReference}
 use Rattle.nr_typed.specs.Types.{Ty, Anything, Word, AnInt, Small, ALong, JustNull, Nullable, Object, Just, Exact}
 
 -- the range of a primitive type (2.3.1, 2.3.4)

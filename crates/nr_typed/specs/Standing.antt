@@ -13,11 +13,11 @@ use Rattle.nr_linked.specs.Programs.{method_at, result_of}
 use Rattle.nr_linked.specs.Sites.{Site, site_at}
 use Rattle.nr_linked.specs.TypingFrames.{TypeFrame, total_size}
 use Rattle.nr_linked.specs.WellTyped.{frame_at}
-use Rattle.nr_heap.specs.declared.value.Value.{Value}
-use Rattle.nr_heap.specs.Heaps.{Heap}
-use Rattle.nr_heap.specs.CallRules.{operands_of}
-use Rattle.nr_heap.specs.States.{Frame, Control, Running, Returned, Thrown, State}
-use Rattle.nr_heap.specs.Steps.{first_frame}
+use Rattle.nr_model.specs.declared.value.Value.{Value}
+use Rattle.nr_model.specs.Heaps.{Heap}
+use Rattle.nr_model.specs.CallRules.{operands_of}
+use Rattle.nr_model.specs.States.{Frame, Control, Running, Returned, Thrown, State}
+use Rattle.nr_model.specs.Steps.{first_frame}
 use Rattle.nr_typed.specs.Types.{Ty, Object, kind_ty, operand_tys, local_tys}
 use Rattle.nr_typed.specs.Belonging.{Belongs, Belong}
 use Rattle.nr_typed.specs.TypedHeaps.{TypedHeap}

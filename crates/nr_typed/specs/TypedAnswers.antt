@@ -8,11 +8,9 @@ use Rattle.nr_linked.specs.BuiltIns.{built_in}
 use Rattle.nr_linked.specs.Programs.{result_of}
 use Rattle.nr_linked.specs.Subtypes.{is_above}
 use Rattle.nr_linked.specs.TypingFacts.{is_makeable}
-use Rattle.nr_heap.specs.Heaps.{Heap}
-use Rattle.nr_heap.specs.States.{State}
-use Rattle.nr_heap.specs.Asks.{Asks, asked_args, Answer, Answered, Faulted, Entry}
-use Rattle.nr_heap.specs.LocalEntries.{IsLocal}
-use Rattle.nr_heap.specs.Same.{Same}
+use Rattle.nr_model.specs.Heaps.{Heap}
+use Rattle.nr_model.specs.States.{State}
+use Rattle.nr_model.specs.Asks.{Asks, asked_args, Answer, Answered, Faulted, Entry}
 use Rattle.nr_typed.specs.TypedHeaps.{TypedHeap, KeepsNames}
 use Rattle.nr_typed.specs.Standing.{IsResult}
 
@@ -39,9 +37,3 @@ EachTyped P fault (e ∷ es) = IsTypedEntry P fault e × EachTyped P fault es
 -- the call for which the state asks, with this answer
 abbrev pub entry_of : {P : ProgramTables} {service : Option ℕ} {s : State} → Asks P service s → Answer → Entry
 entry_of {s = s} a answer = record { method = a.method; args = asked_args a; before = s.heap; answer = answer }
-
--- What was answered is what a local run left, but for names: the same from the old names and the results on, and in a
--- heap that has no names but the old ones and those of what is reached.
-pub record IsRestored (P : ProgramTables) (e : Entry) : Type 0 where
-  pub local : IsLocal P e
-  pub same : Same e.before local.state.heap local.result local.after local.value

@@ -8,8 +8,8 @@ use Rattle.nr_linked.specs.declared.program.tables.ProgramTables.{ProgramTables}
 use Rattle.nr_linked.specs.Slots.{slots_of}
 use Rattle.nr_linked.specs.Subtypes.{is_assignable}
 use Rattle.nr_linked.specs.TypingFacts.{is_makeable}
-use Rattle.nr_heap.specs.declared.value.Value.{Value}
-use Rattle.nr_heap.specs.Heaps.{Obj, Heap, on_some}
+use Rattle.nr_model.specs.declared.value.Value.{Value}
+use Rattle.nr_model.specs.Heaps.{Obj, Heap, on_some}
 use Rattle.nr_typed.specs.Types.{Ty, Anything, kept_ty}
 use Rattle.nr_typed.specs.Belonging.{Belongs}
 
@@ -48,10 +48,6 @@ slot_ty P k i = by_dims k.dims
 pub record TypedHeap (P : ProgramTables) (h : Heap) : Type 0 where
   pub count : (a : ℕ) (o : Obj) → get h a ≡ Some o → Counts P o.kind (length o.slots)
   pub slots : (a : ℕ) (o : Obj) → get h a ≡ Some o → (i : ℕ) (v : Value) → slice_get o.slots i ≡ Some v → Belongs P h (slot_ty P o.kind i) v
-
--- each object is still there, of its kind and length
-pub record Stays (h k : Heap) : Type 0 where
-  pub at : (a : ℕ) (o : Obj) → get h a ≡ Some o → (p : Obj) × (get k a ≡ Some p) × (p.kind ≡ o.kind) × (length p.slots ≡ length o.slots)
 
 -- each name is still there, with its kind
 pub record KeepsNames (h k : Heap) : Type 0 where

@@ -9,7 +9,7 @@ use Rattle.nr_linked.specs.declared.program.types.VType.TheVariants as types
 use Rattle.nr_prog.specs.Members.{is_static}
 use Rattle.nr_linked.specs.Kinds.{class_kind, is_reference}
 use Rattle.nr_linked.specs.TypingCalls.{class_made_at}
-use Rattle.nr_heap.specs.Heaps.{on_some}
+use Rattle.nr_model.specs.Heaps.{on_some}
 
 pub data Ty : Type 0 where
   Anything : Ty  -- what a local variable of type Top holds

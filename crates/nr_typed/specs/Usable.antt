@@ -5,11 +5,11 @@ use Rattle.nr_linked.specs.declared.program.tables.ProgramTables.{ProgramTables}
 use Rattle.nr_linked.specs.Programs.{method_at}
 use Rattle.nr_linked.specs.TypingFrames.{TypeFrame}
 use Rattle.nr_linked.specs.WellTyped.{frame_at}
-use Rattle.nr_heap.specs.declared.value.Value.{Value}
-use Rattle.nr_heap.specs.Heaps.{on_some}
-use Rattle.nr_heap.specs.States.{Frame, Control, Running, Returned, Thrown, State}
-use Rattle.nr_heap.specs.Alike.{Like, AlikeResult, Any}
-use Rattle.nr_heap.specs.Pairs.{name_in, name_at, Listed, InResults, Paired}
+use Rattle.nr_model.specs.declared.value.Value.{Value}
+use Rattle.nr_model.specs.Heaps.{on_some}
+use Rattle.nr_model.specs.States.{Frame, Control, Running, Returned, Thrown, State}
+use Rattle.nr_model.specs.Alike.{Like, AlikeResult, Any}
+use Rattle.nr_model.specs.Pairs.{name_in, name_at, Listed, InResults, Paired}
 use Rattle.nr_typed.specs.Types.{Ty, Anything, Word, operand_tys, local_tys}
 
 -- what a local variable or an operand of type Top holds isn't usable

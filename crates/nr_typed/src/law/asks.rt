@@ -5,13 +5,13 @@ ghost use Rattle.nr_linked.specs.declared.program.kind.Kind.{Kind};
 ghost use Rattle.nr_linked.specs.declared.program.tables.ProgramTables.{ProgramTables};
 ghost use Rattle.nr_linked.specs.TypingFacts.{TypingFacts};
 ghost use Rattle.nr_linked.specs.WellTyped.{WellTyped};
-ghost use Rattle.nr_heap.specs.declared.value.Value.{Value};
-ghost use Rattle.nr_heap.specs.States.{IsEnd, Returned, State};
-ghost use Rattle.nr_heap.specs.Steps.{Step};
-ghost use Rattle.nr_heap.specs.Asks.{Answer, AskRun, AskStep, Asks, Entry};
-ghost use Rattle.nr_heap.specs.LocalEntries.{AllFated, IsOwn};
+ghost use Rattle.nr_model.specs.declared.value.Value.{Value};
+ghost use Rattle.nr_model.specs.States.{IsEnd, Returned, State};
+ghost use Rattle.nr_model.specs.Steps.{Step};
+ghost use Rattle.nr_model.specs.Asks.{Answer, AskRun, AskStep, Asks, Entry};
+ghost use Rattle.nr_model.specs.LocalEntries.{AllFated, IsOwn, IsRestored};
 ghost use Rattle.nr_typed.specs.Standing.{IsResult, StandsIn};
-ghost use Rattle.nr_typed.specs.TypedAnswers.{CanBeThrown, EachTyped, IsRestored, IsTypedEntry, entry_of};
+ghost use Rattle.nr_typed.specs.TypedAnswers.{CanBeThrown, EachTyped, IsTypedEntry, entry_of};
 
 /// Promises that a remote call of a well-typed program, from a state that stands in its heap, leads to a
 /// state that stands, for the same result of the first method, where its answer is typed: a typed heap that

@@ -4,8 +4,8 @@ ghost use Rattle.std.specs.Prelude.{ℕ, List, Option};
 ghost use Rattle.nr_linked.specs.declared.program.kind.Kind.{Kind};
 ghost use Rattle.nr_linked.specs.declared.program.tables.ProgramTables.{ProgramTables};
 ghost use Rattle.nr_linked.specs.TypingFrames.{TypeFrame};
-ghost use Rattle.nr_heap.specs.Heaps.{Heap};
-ghost use Rattle.nr_heap.specs.States.{State};
+ghost use Rattle.nr_model.specs.Heaps.{Heap};
+ghost use Rattle.nr_model.specs.States.{State};
 ghost use Rattle.nr_typed.specs.Standing.{StandsIn, with_heap};
 ghost use Rattle.nr_typed.specs.TypedHeaps.{KeepsNames, TypedHeap};
 

@@ -7,10 +7,10 @@ ghost use Rattle.nr_linked.specs.declared.program.tables.ProgramTables.{ProgramT
 ghost use Rattle.nr_linked.specs.Programs.{method_at};
 ghost use Rattle.nr_linked.specs.TypingFacts.{TypingFacts};
 ghost use Rattle.nr_linked.specs.WellTyped.{WellTyped};
-ghost use Rattle.nr_heap.specs.declared.value.Value.{Value};
-ghost use Rattle.nr_heap.specs.Heaps.{Heap};
-ghost use Rattle.nr_heap.specs.States.{Returned, State};
-ghost use Rattle.nr_heap.specs.Steps.{Run};
+ghost use Rattle.nr_model.specs.declared.value.Value.{Value};
+ghost use Rattle.nr_model.specs.Heaps.{Heap};
+ghost use Rattle.nr_model.specs.States.{Returned, State};
+ghost use Rattle.nr_model.specs.Steps.{Run};
 ghost use Rattle.nr_typed.specs.Belonging.{Belong};
 ghost use Rattle.nr_typed.specs.Standing.{IsResult, StandsIn, first_state};
 ghost use Rattle.nr_typed.specs.TypedHeaps.{TypedHeap};

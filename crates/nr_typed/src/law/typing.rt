@@ -11,7 +11,7 @@ ghost use Rattle.nr_linked.specs.declared.program.tables.ProgramTables.{ProgramT
 ghost use Rattle.nr_linked.specs.Programs.{method_at};
 ghost use Rattle.nr_linked.specs.TypingFacts.{TypingFacts};
 ghost use Rattle.nr_linked.specs.WellTyped.{WellTyped};
-ghost use Rattle.nr_heap.specs.States.{State};
+ghost use Rattle.nr_model.specs.States.{State};
 ghost use Rattle.nr_typed.specs.Offsets.{AreInOrder, CodeInOrder};
 ghost use Rattle.nr_typed.specs.Standing.{StandsIn};
 

@@ -5,9 +5,9 @@ ghost use Rattle.nr_linked.specs.declared.program.kind.Kind.{Kind};
 ghost use Rattle.nr_linked.specs.declared.program.tables.ProgramTables.{ProgramTables};
 ghost use Rattle.nr_linked.specs.TypingFacts.{TypingFacts};
 ghost use Rattle.nr_linked.specs.WellTyped.{WellTyped};
-ghost use Rattle.nr_heap.specs.States.{IsEnd, State};
-ghost use Rattle.nr_heap.specs.Steps.{Run, Step};
-ghost use Rattle.nr_heap.specs.Pairs.{PairedStates};
+ghost use Rattle.nr_model.specs.States.{IsEnd, State};
+ghost use Rattle.nr_model.specs.Steps.{Run, Step};
+ghost use Rattle.nr_model.specs.Pairs.{PairedStates};
 ghost use Rattle.nr_typed.specs.Standing.{StandsIn};
 ghost use Rattle.nr_typed.specs.Usable.{UsablePaired};
 

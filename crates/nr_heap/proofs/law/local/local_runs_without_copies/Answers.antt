@@ -1,5 +1,0 @@
-use Rattle.nr_heap.proofs.Plain.{plain_run, plain_local}
-use Rattle.nr_heap.proofs.law.local.local_runs_without_copies.Goals as goal
-
-pub returns : goal.returns
-returns c = λ p h m args n t all. (plain_run p h args all m n t, plain_local p h args all m n t)

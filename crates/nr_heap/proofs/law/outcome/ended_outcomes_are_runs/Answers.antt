@@ -1,5 +1,0 @@
-use Rattle.nr_heap.proofs.Outcomes.{outcome_run}
-use Rattle.nr_heap.proofs.law.outcome.ended_outcomes_are_runs.Goals as goal
-
-pub returns : goal.returns
-returns c = outcome_run

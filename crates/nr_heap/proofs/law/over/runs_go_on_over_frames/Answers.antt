@@ -1,5 +1,0 @@
-use Rattle.nr_heap.proofs.Over.{run_over}
-use Rattle.nr_heap.proofs.law.over.runs_go_on_over_frames.Goals as goal
-
-pub returns : goal.returns
-returns c = run_over

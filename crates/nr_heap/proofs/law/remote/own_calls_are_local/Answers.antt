@@ -1,5 +1,0 @@
-use Rattle.nr_heap.proofs.OwnCalls.{own_local}
-use Rattle.nr_heap.proofs.law.remote.own_calls_are_local.Goals as goal
-
-pub returns : goal.returns
-returns c = own_local

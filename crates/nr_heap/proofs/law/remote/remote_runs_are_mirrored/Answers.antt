@@ -1,5 +1,0 @@
-use Rattle.nr_heap.proofs.Mirrors.{pairs_mirrored}
-use Rattle.nr_heap.proofs.law.remote.remote_runs_are_mirrored.Goals as goal
-
-pub returns : goal.returns
-returns c = pairs_mirrored

@@ -1,0 +1,36 @@
+use Rattle.nr_model.proofs.Examples.BoxCopied.{copies_made, run_here, run_there, local_run}
+use Rattle.nr_model.proofs.Examples.BoxRestored.{start_alike, all_listed, closed, restores, left_the_same, call_is_local, call_is_restored}
+use Rattle.nr_model.proofs.law.example.premises_can_be_met.Goals as goal
+
+pub returns-clause-copies : goal.returns-clause-copies
+returns-clause-copies c = copies_made
+
+pub returns-clause-local_run : goal.returns-clause-local_run
+returns-clause-local_run c = local_run
+
+pub returns-clause-paired : goal.returns-clause-paired
+returns-clause-paired c = start_alike
+
+pub returns-clause-run : goal.returns-clause-run
+returns-clause-run c = run_here
+
+pub returns-clause-other_run : goal.returns-clause-other_run
+returns-clause-other_run c = run_there
+
+pub returns-clause-closed : goal.returns-clause-closed
+returns-clause-closed c = closed
+
+pub returns-clause-all_listed : goal.returns-clause-all_listed
+returns-clause-all_listed c = all_listed
+
+pub returns-clause-restores : goal.returns-clause-restores
+returns-clause-restores c = restores
+
+pub returns-clause-same : goal.returns-clause-same
+returns-clause-same c = left_the_same
+
+pub returns-clause-local_call : goal.returns-clause-local_call
+returns-clause-local_call c = call_is_local
+
+pub returns-clause-restored_call : goal.returns-clause-restored_call
+returns-clause-restored_call c = call_is_restored

@@ -1,0 +1,24 @@
+//! Runs of two machines that agree but for the names of objects.
+
+ghost use Rattle.std.specs.Prelude.{◌≡◌, ℕ, ◌+◌, List};
+ghost use Rattle.nr_linked.specs.declared.program.tables.ProgramTables.{ProgramTables};
+ghost use Rattle.nr_model.specs.Heaps.{cells};
+ghost use Rattle.nr_model.specs.States.{IsEnd, State};
+ghost use Rattle.nr_model.specs.Steps.{Run};
+ghost use Rattle.nr_model.specs.Pairs.{PairedStates};
+
+/// Promises that runs keep pairs, whatever names new objects take: from paired states, runs of one length
+/// end in states that are paired from the same start, and their heaps grow by equally many cells, so that
+/// two of one size stay so; where one machine makes a run, so can the other; and runs that end have one
+/// length. It does nothing.
+pub fn runs_keep_pairs()
+    ensures kept { (p : ProgramTables) (n : ℕ) (pairs : List (ℕ × ℕ)) (s t s' t' : State)
+        → PairedStates pairs s t → Run p s n s' → Run p t n t' → PairedStates pairs s' t' }
+    ensures grown { (p : ProgramTables) (n : ℕ) (pairs : List (ℕ × ℕ)) (s t s' t' : State)
+        → PairedStates pairs s t → Run p s n s' → Run p t n t'
+        → cells s'.heap + cells t.heap ≡ cells t'.heap + cells s.heap }
+    ensures both_run { (p : ProgramTables) (n : ℕ) (pairs : List (ℕ × ℕ)) (s t s' : State)
+        → PairedStates pairs s t → Run p s n s' → (t' : State) × Run p t n t' }
+    ensures one_length { (p : ProgramTables) (n k : ℕ) (pairs : List (ℕ × ℕ)) (s t s' t' : State)
+        → PairedStates pairs s t → Run p s n s' → Run p t k t' → IsEnd s'.control → IsEnd t'.control → n ≡ k }
+{}
