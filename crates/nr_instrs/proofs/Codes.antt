@@ -27,9 +27,11 @@ use Rattle.nr_instrs.proofs.Raws.{raw_instr, instr_from, instr_law}
 use Rattle.nr_instrs.proofs.Texts.{args_of}
 use Rattle.nr_instrs.proofs.Settling.{Maps, then_ok, then_gives, walked, walks, AllIn, AreBelow}
 use Rattle.nr_instrs.proofs.ToEnd.{EachAt, ReadsAt, to_end_found, to_end_only}
-use Rattle.nr_instrs.specs.Orders.{AreInOrder, IsInOrder}
+use Rattle.nr_prog.specs.Offsets.{IsInOrder}
+use Rattle.nr_prog.proofs.Offsets.{spelled_in_order}
+use Rattle.nr_instrs.specs.Orders.{AreInOrder}
 use Rattle.nr_instrs.proofs.Orders.{ascends}
-use Rattle.nr_instrs.proofs.Instrs.{raw_placed, in_order, made_of, starts_in, start_is, to_all, of_all, all_found, all_read, all_settle}
+use Rattle.nr_instrs.proofs.Instrs.{raw_placed, made_of, starts_in, start_is, to_all, of_all, all_found, all_read, all_settle}
 
 -- ---- instructions as they are read
 
@@ -112,7 +114,7 @@ decoded_are pool bytes (Ok is) all fits e = instrs_are pool bytes is all fits e
 decoded_are pool bytes (Err d) all fits e = tt
 
 pub decoded_in_order : (pool : List PoolEntry) (bytes : List ℕ) (r : Result (List Instr) CodeFault) → All IsText pool → IsBytes bytes → GivesWhole is_free r (instrs_of pool bytes) → IfOk r IsInOrder
-decoded_in_order pool bytes (Ok is) all fits e = in_order pool is bytes (instrs_are pool bytes is all fits e).0
+decoded_in_order pool bytes (Ok is) all fits e = spelled_in_order pool is bytes (instrs_are pool bytes is all fits e).0
 decoded_in_order pool bytes (Err d) all fits e = tt
 
 pub decoded_give : (pool : List PoolEntry) (bytes : List ℕ) (r : Result (List Instr) CodeFault) (is : List Instr) → All IsText pool → length bytes < 2 ^ 16 → GivesWhole is_free r (instrs_of pool bytes) → instrs pool 0 is bytes → All (HasTargets is) is → GivesWhole is_free r (Ok is)

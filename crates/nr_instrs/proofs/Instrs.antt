@@ -26,9 +26,8 @@ use Rattle.nr_instrs.specs.Checks.{starts_of, is_among, settled_args, settled}
 use Rattle.nr_instrs.proofs.Raws.{raw_operands, given, raw_instr}
 use Rattle.nr_instrs.proofs.Texts.{HasPos, args_of, to_operands, of_operands}
 use Rattle.nr_instrs.proofs.Settling.{Maps, then_ok, then_gives, AllIn, AreBelow, HasNone, args_are, args_give}
-use Rattle.nr_instrs.specs.Orders.{IsInOrder}
 use Rattle.nr_instrs.proofs.ToEnd.{EachAt}
-use Rattle.nr_instrs.proofs.Orders.{IsPlacedBy, ascends}
+use Rattle.nr_instrs.proofs.Orders.{IsPlacedBy}
 
 -- ---- instructions without a branch have no target
 
@@ -218,16 +217,6 @@ all_found pool starts at (i ∷ raws) (j ∷ is) text g m =
 
 pub raw_placed : (pool : List PoolEntry) → IsPlacedBy (λ (i : RawInstr). i.at) (raw_instr pool)
 raw_placed pool at i text g = let p = parts pool at i text g in (ap (λ (z : RawInstr). z.at) p.is, omega (arith, ap length p.whole))
-
-instr_placed : (pool : List PoolEntry) → IsPlacedBy (λ (i : Instr). i.at) (IsInstr pool)
-instr_placed pool at i text g = (g.placed, omega (arith, ap length g.spelled.1))
-
-each_instr : (pool : List PoolEntry) (at : ℕ) (is : List Instr) (text : List ℕ) → instrs pool at is text → EachAt (IsInstr pool) at is text
-each_instr pool at [] text g = g
-each_instr pool at (i ∷ is) text g = (g.0, g.1, g.2, each_instr pool (at + length g.0) is g.1 g.3, g.4)
-
-pub in_order : (pool : List PoolEntry) (is : List Instr) (text : List ℕ) → instrs pool 0 is text → IsInOrder is
-in_order pool is text g = ascends (λ (i : Instr). i.at) (IsInstr pool) (instr_placed pool) 0 is text (each_instr pool 0 is text g)
 
 -- ---- all instructions, the other way round
 

@@ -12,7 +12,7 @@ use Rattle.std.proofs.lemmas.List.{get_or-map, length-map}
 use Rattle.std.proofs.lemmas.List.Elements.{All-from_get_or, All-from_all_within}
 use Rattle.std.proofs.lemmas.List.Folds.{list_any_at, list_any_none}
 use Rattle.nr_base.proofs.ClassNames.{and_true}
-use Rattle.nr_instrs.specs.Orders.{IsAscendingBy}
+use Rattle.nr_prog.specs.Offsets.{IsAscendingBy}
 use Rattle.nr_instrs.proofs.ToEnd.{EachAt}
 
 -- ---- what is read is in order

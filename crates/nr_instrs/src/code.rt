@@ -8,7 +8,7 @@ ghost use Rattle.nr_prog.specs.BodyText.{HasTargets, instrs as spelled_by};
 ghost use Rattle.nr_prog.specs.declared.body.instruction.Instr.{Instr as InstrView};
 ghost use Rattle.nr_instrs.specs.Faults.{is_free};
 ghost use Rattle.nr_instrs.specs.Decoding.{instrs_of, raws_of};
-ghost use Rattle.nr_instrs.specs.Orders.{IsInOrder};
+ghost use Rattle.nr_prog.specs.Offsets.{IsInOrder};
 
 use crate::fault::CodeFault;
 use crate::instruction::read_instrs;

@@ -19,7 +19,7 @@ pub struct Offsets {
 
 impl Model for Offsets {
     ghost use Rattle.std.specs.Prelude.{ℕ, List};
-    ghost use Rattle.nr_instrs.specs.Orders.{IsAscendingBy};
+    ghost use Rattle.nr_prog.specs.Offsets.{IsAscendingBy};
 
     ghost Value = { List ℕ };
 
@@ -63,7 +63,7 @@ pub struct Starts<'a> {
 impl<'a> Model for Starts<'a> {
     ghost use Rattle.std.specs.Prelude.{List};
     ghost use Rattle.nr_prog.specs.declared.body.instruction.Instr.{Instr as InstrView};
-    ghost use Rattle.nr_instrs.specs.Orders.{IsInOrder};
+    ghost use Rattle.nr_prog.specs.Offsets.{IsInOrder};
 
     ghost Value = { List InstrView };
 
@@ -81,7 +81,7 @@ fn makes(family: Family) -> bool
 impl<'a> Starts<'a> {
     ghost use Rattle.std.specs.Prelude.{◌≡◌};
     ghost use Rattle.nr_prog.specs.BodyStarts.{is_new as makes_at, is_start as starts_at};
-    ghost use Rattle.nr_instrs.specs.Orders.{IsInOrder};
+    ghost use Rattle.nr_prog.specs.Offsets.{IsInOrder};
 
     pub fn of(instrs: &'a [Instr]) -> Starts<'a>
         requires { IsInOrder instrs.now }

@@ -9,5 +9,6 @@ pub mod Seen
 pub mod BodyNames
 pub mod BodyOperands
 pub mod BodyStarts
+pub mod Offsets
 pub mod BodyMaps
 pub mod BodyText

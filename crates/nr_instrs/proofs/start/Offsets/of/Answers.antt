@@ -1,6 +1,6 @@
 use Rattle.std.proofs.Common.{ℕ, map, sym, ap, subst, ◌∙◌}
 use Rattle.std.proofs.lemmas.List.{take_all}
-use Rattle.nr_instrs.specs.Orders.{IsAscendingBy}
+use Rattle.nr_prog.specs.Offsets.{IsAscendingBy}
 use Rattle.nr_instrs.specs.declared.raw.RawInstr.{RawInstr}
 use Rattle.nr_instrs.proofs.Orders.{keys_ascend}
 use Rattle.nr_instrs.proofs.start.Offsets.of.Goals as goal
