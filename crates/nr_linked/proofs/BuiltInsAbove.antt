@@ -6,7 +6,7 @@ use Rattle.std.proofs.Math.Facts.{eqb_yes}
 use lib.Dec.{eqb_refl}
 use Rattle.std.specs.Option.{option_map_or, option_map, option_to_list, IsSomeAnd}
 use Rattle.nr_linked.specs.declared.program.built_in.BuiltIn.{BuiltIn}
-use Rattle.nr_linked.specs.declared.program.built_in.BuiltIn.TheVariants.{Object, Cloneable, Throwable, Exception, Error, RuntimeException, ArithmeticException, ArrayStoreException, ClassCastException, IllegalArgumentException, IllegalStateException, IndexOutOfBoundsException, NegativeArraySizeException, NullPointerException, ArrayIndexOutOfBoundsException, LinkageError, IncompatibleClassChangeError, AbstractMethodError, Serializable, Restorable, Out}
+use Rattle.nr_linked.specs.declared.program.built_in.BuiltIn.TheVariants.{Object, Cloneable, Throwable, Exception, Error, RuntimeException, ArithmeticException, ArrayStoreException, ClassCastException, IllegalArgumentException, IllegalStateException, IndexOutOfBoundsException, NegativeArraySizeException, NullPointerException, ArrayIndexOutOfBoundsException, LinkageError, IncompatibleClassChangeError, AbstractMethodError, Serializable, Restorable, Out, RemoteFault}
 use Rattle.nr_linked.specs.BuiltIns.{built_in_class, number}
 use Rattle.nr_linked.specs.BuiltInTables.{built_in_info, built_in_infos, built_in_tables, within_steps}
 use Rattle.nr_linked.specs.Programs.{class_at}
@@ -40,6 +40,7 @@ at_number AbstractMethodError = refl
 at_number Serializable = refl
 at_number Restorable = refl
 at_number Out = refl
+at_number RemoteFault = refl
 
 mem : ℕ → List BuiltIn → Bool
 mem d [] = false
@@ -88,6 +89,7 @@ steps AbstractMethodError = (inl refl, tt)
 steps Serializable = (inl refl, tt)
 steps Restorable = (inl refl, (inr (0, omega arith, refl), tt))
 steps Out = (inl refl, tt)
+steps RemoteFault = (inl refl, tt)
 
 module _ (n b_number d : ℕ) (up : (s : BuiltIn) → mem d (within_steps n s) ≡ true → Above built_in_tables (number s) d) where
   through : (ss : List BuiltIn) → AllByRecursion (λ s. IsDirectlyAbove built_in_tables b_number (number s)) ss → mem d (flat_map (within_steps n) ss) ≡ true → Above built_in_tables b_number d
@@ -151,6 +153,7 @@ closed AbstractMethodError = (refl, tt)
 closed Serializable = (refl, tt)
 closed Restorable = (refl, (refl, tt))
 closed Out = (refl, tt)
+closed RemoteFault = (refl, tt)
 
 module _ (Q : BuiltIn → Type 0) (s : ℕ) where
   of_interface : (bs : List BuiltIn) (k : ℕ) → k < length (map (λ a. 0 + number a) bs) → slice_index_or (map (λ a. 0 + number a) bs) k s ≡ s → AllByRecursion Q bs → (a : BuiltIn) × (number a ≡ s) × Q a

@@ -4,7 +4,7 @@ use Rattle.std.specs.Prelude.{Some, None, slice_get, is_some, is_none, ◌==◌,
 use Rattle.std.specs.List.{list_all, list_any}
 use Rattle.std.specs.Option.{option_map_or}
 use Rattle.nr_linked.specs.declared.program.built_in.BuiltIn.{BuiltIn}
-use Rattle.nr_linked.specs.declared.program.built_in.BuiltIn.TheVariants.{Object, Cloneable, Throwable, Exception, Error, RuntimeException, ArithmeticException, ArrayStoreException, ClassCastException, IllegalArgumentException, IllegalStateException, IndexOutOfBoundsException, NegativeArraySizeException, NullPointerException, ArrayIndexOutOfBoundsException, LinkageError, IncompatibleClassChangeError, AbstractMethodError, Serializable, Restorable, Out}
+use Rattle.nr_linked.specs.declared.program.built_in.BuiltIn.TheVariants.{Object, Cloneable, Throwable, Exception, Error, RuntimeException, ArithmeticException, ArrayStoreException, ClassCastException, IllegalArgumentException, IllegalStateException, IndexOutOfBoundsException, NegativeArraySizeException, NullPointerException, ArrayIndexOutOfBoundsException, LinkageError, IncompatibleClassChangeError, AbstractMethodError, Serializable, Restorable, Out, RemoteFault}
 use Rattle.nr_linked.specs.declared.program.tables.ProgramTables.{ProgramTables}
 use Rattle.nr_linked.specs.BuiltIns.{BuiltInMethod, built_in, built_in_class, number}
 use Rattle.nr_linked.specs.BuiltInTables.{built_in_info, built_in_infos, built_in_method, built_in_methods, built_in_tables}
@@ -102,7 +102,10 @@ each_class = (
                                         class_linked Restorable refl refl refl refl refl refl refl refl refl,
                                         (
                                           class_linked Out refl refl refl refl refl refl refl refl refl,
-                                          tt,
+                                          (
+                                            class_linked RemoteFault refl refl refl refl refl refl refl refl refl,
+                                            tt,
+                                          ),
                                         ),
                                       ),
                                     ),
@@ -190,7 +193,10 @@ each_method = (
                                           method_linked 20 20 _ refl refl refl refl,
                                           (
                                             method_linked 20 21 _ refl refl refl refl,
-                                            tt,
+                                            (
+                                              method_linked 21 22 _ refl refl refl refl,
+                                              tt,
+                                            ),
                                           ),
                                         ),
                                       ),

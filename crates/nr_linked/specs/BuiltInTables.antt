@@ -3,7 +3,7 @@ use Rattle.std.specs.Prelude.{ℕ, zero, suc, ◌+◌, List, [], ◌∷◌, ◌+
 use Rattle.std.specs.List.{flat_map}
 use Rattle.std.specs.Option.{option_map, option_to_list}
 use Rattle.nr_linked.specs.declared.program.built_in.BuiltIn.{BuiltIn}
-use Rattle.nr_linked.specs.declared.program.built_in.BuiltIn.TheVariants.{Object, Cloneable, Throwable, Exception, Error, RuntimeException, ArithmeticException, ArrayStoreException, ClassCastException, IllegalArgumentException, IllegalStateException, IndexOutOfBoundsException, NegativeArraySizeException, NullPointerException, ArrayIndexOutOfBoundsException, LinkageError, IncompatibleClassChangeError, AbstractMethodError, Serializable, Restorable, Out}
+use Rattle.nr_linked.specs.declared.program.built_in.BuiltIn.TheVariants.{Object, Cloneable, Throwable, Exception, Error, RuntimeException, ArithmeticException, ArrayStoreException, ClassCastException, IllegalArgumentException, IllegalStateException, IndexOutOfBoundsException, NegativeArraySizeException, NullPointerException, ArrayIndexOutOfBoundsException, LinkageError, IncompatibleClassChangeError, AbstractMethodError, Serializable, Restorable, Out, RemoteFault}
 use Rattle.nr_linked.specs.declared.program.tables.ProgramTables.{ProgramTables}
 use Rattle.nr_linked.specs.declared.program.tables.ClassInfo.{ClassInfo}
 use Rattle.nr_linked.specs.declared.program.tables.MethodInfo.{MethodInfo}
@@ -11,7 +11,7 @@ use Rattle.nr_linked.specs.BuiltIns.{BuiltInMethod, built_in_class, number}
 
 -- in the order of their numbers
 abbrev pub built_ins : List BuiltIn
-built_ins = Object ∷ Cloneable ∷ Throwable ∷ Exception ∷ Error ∷ RuntimeException ∷ ArithmeticException ∷ ArrayStoreException ∷ ClassCastException ∷ IllegalArgumentException ∷ IllegalStateException ∷ IndexOutOfBoundsException ∷ NegativeArraySizeException ∷ NullPointerException ∷ ArrayIndexOutOfBoundsException ∷ LinkageError ∷ IncompatibleClassChangeError ∷ AbstractMethodError ∷ Serializable ∷ Restorable ∷ Out ∷ []
+built_ins = Object ∷ Cloneable ∷ Throwable ∷ Exception ∷ Error ∷ RuntimeException ∷ ArithmeticException ∷ ArrayStoreException ∷ ClassCastException ∷ IllegalArgumentException ∷ IllegalStateException ∷ IndexOutOfBoundsException ∷ NegativeArraySizeException ∷ NullPointerException ∷ ArrayIndexOutOfBoundsException ∷ LinkageError ∷ IncompatibleClassChangeError ∷ AbstractMethodError ∷ Serializable ∷ Restorable ∷ Out ∷ RemoteFault ∷ []
 
 -- what stands at most n steps above the class or the interface, itself first
 abbrev pub within_steps : ℕ → BuiltIn → List BuiltIn

@@ -2,7 +2,7 @@
 -- is in the Java API. They stand last in a program's table, in this order.
 use Rattle.std.specs.Prelude.{ℕ, ◌+◌, ◌-◌, List, [], ◌∷◌, length, Option, Some, None, codes}
 use Rattle.nr_linked.specs.declared.program.built_in.BuiltIn.{BuiltIn}
-use Rattle.nr_linked.specs.declared.program.built_in.BuiltIn.TheVariants.{Object, Cloneable, Throwable, Exception, Error, RuntimeException, ArithmeticException, ArrayStoreException, ClassCastException, IllegalArgumentException, IllegalStateException, IndexOutOfBoundsException, NegativeArraySizeException, NullPointerException, ArrayIndexOutOfBoundsException, LinkageError, IncompatibleClassChangeError, AbstractMethodError, Serializable, Restorable, Out}
+use Rattle.nr_linked.specs.declared.program.built_in.BuiltIn.TheVariants.{Object, Cloneable, Throwable, Exception, Error, RuntimeException, ArithmeticException, ArrayStoreException, ClassCastException, IllegalArgumentException, IllegalStateException, IndexOutOfBoundsException, NegativeArraySizeException, NullPointerException, ArrayIndexOutOfBoundsException, LinkageError, IncompatibleClassChangeError, AbstractMethodError, Serializable, Restorable, Out, RemoteFault}
 use Rattle.nr_linked.specs.declared.program.kind.Base.TheVariants as bases
 use Rattle.nr_linked.specs.declared.program.kind.Kind.{Kind}
 use Rattle.nr_linked.specs.declared.program.tables.ProgramTables.{ProgramTables}
@@ -31,9 +31,10 @@ number AbstractMethodError = 17
 number Serializable = 18
 number Restorable = 19
 number Out = 20
+number RemoteFault = 21
 
 abbrev pub built_in_count : ℕ
-built_in_count = 21
+built_in_count = 22
 
 -- the number of a built-in class in the program
 abbrev pub built_in : ProgramTables → BuiltIn → ℕ
@@ -101,3 +102,4 @@ built_in_class Out = record {
       ∷ printing (codes "print") (codes "(J)V") (record { dims = 0; base = bases.Long } ∷ [])
       ∷ printing (codes "line") (codes "()V") [] ∷ [];
 }
+built_in_class RemoteFault = throwable (codes "nrmi/RemoteFault") RuntimeException

@@ -177,7 +177,7 @@ pub record IsMethodLinked (P : ProgramTables) (m : ℕ) (i : MethodInfo) : Type 
 
 -- how many methods the built-in classes have
 abbrev pub built_in_method_count : ℕ
-built_in_method_count = 22
+built_in_method_count = 23
 
 abbrev pub first_built_in_method : ProgramTables → ℕ
 first_built_in_method P = length P.methods - built_in_method_count

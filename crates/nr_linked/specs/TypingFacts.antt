@@ -68,7 +68,7 @@ has_constant family ls found = true
 abbrev pub is_makeable : ProgramTables → ℕ → Bool
 is_makeable P c = option_map_or (λ e. not (is_abstract e.flags)) (class_at P c) false && not (is_interface P c)
 
--- the throwables of the machine's own throws (2.10)
+-- the throwables of the machine's own throws (2.10), and the one that a remote call throws where it answers a fault
 abbrev pub is_thrown : BuiltIn → Bool
 is_thrown built_ins.ArithmeticException = true
 is_thrown built_ins.ArrayStoreException = true
@@ -78,6 +78,7 @@ is_thrown built_ins.NullPointerException = true
 is_thrown built_ins.ArrayIndexOutOfBoundsException = true
 is_thrown built_ins.IncompatibleClassChangeError = true
 is_thrown built_ins.AbstractMethodError = true
+is_thrown built_ins.RemoteFault = true
 is_thrown b = false
 
 -- ---- calls

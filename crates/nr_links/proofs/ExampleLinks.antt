@@ -290,10 +290,10 @@ not_final : (m : ℕ) (i : MethodInfo) → method_at tables m ≡ Some i → is_
 not_final m i e = not-true (is_final i.flags) (passes_at (λ (i : MethodInfo). not (is_final i.flags)) tables.methods m i none_final e)
 
 -- nothing that stands directly above c has c above it
-no_cycle : (c : ℕ) → IsTrue (list_all (λ d. nat_lt d 23 && not (is_above tables d c)) (steps_up tables c)) → (d : ℕ) → IsDirectlyAbove tables c d → Above tables d c → ⊥
+no_cycle : (c : ℕ) → IsTrue (list_all (λ d. nat_lt d 24 && not (is_above tables d c)) (steps_up tables c)) → (d : ℕ) → IsDirectlyAbove tables c d → Above tables d c → ⊥
 no_cycle c check d step above =
-    let one = and_parts (nat_lt d 23) (not (is_above tables d c)) (listed_all (λ d. nat_lt d 23 && not (is_above tables d c)) d (steps_up tables c) (direct_step (class_at tables c) d step) check) in
-    both_ways (is_above tables d c) (not-true (is_above tables d c) one.1) ((supers d (ltb-true d 23 one.0) c).1 above)
+    let one = and_parts (nat_lt d 24) (not (is_above tables d c)) (listed_all (λ d. nat_lt d 24 && not (is_above tables d c)) d (steps_up tables c) (direct_step (class_at tables c) d step) check) in
+    both_ways (is_above tables d c) (not-true (is_above tables d c) one.1) ((supers d (ltb-true d 24 one.0) c).1 above)
 
 a_rules : KeepsRules tables 0 a_info a_parts
 unfolding tables text_at spells built_in_infos built_in_info built_in_class

@@ -21,20 +21,20 @@ use Rattle.nr_links.proofs.Reaching.{is_closed_at, is_reached_at, supers_by_chec
 
 -- ---- what stands above each class
 
-closed : IsTrue (all_below 23 (is_closed_at tables 23))
+closed : IsTrue (all_below 24 (is_closed_at tables 24))
 unfolding tables built_in_infos built_in_info built_in_class
 closed = refl
 
-reached : IsTrue (all_below 23 (is_reached_at tables 6))
+reached : IsTrue (all_below 24 (is_reached_at tables 6))
 unfolding tables built_in_infos built_in_info built_in_class
 reached = refl
 
-pub supers : (c : ℕ) → c < 23 → (d : ℕ) → IsTrue (is_above tables c d) ↔ Above tables c d
-supers c l d = supers_by_check tables 23 6 closed reached c l d
+pub supers : (c : ℕ) → c < 24 → (d : ℕ) → IsTrue (is_above tables c d) ↔ Above tables c d
+supers c l d = supers_by_check tables 24 6 closed reached c l d
 
 -- ---- each class
 
-class_linked : (c : ℕ) (e : ClassInfo) → c < 23 → IfSome e.read (IsReadAs tables c e) → class_named tables e.name ≡ Some c
+class_linked : (c : ℕ) (e : ClassInfo) → c < 24 → IfSome e.read (IsReadAs tables c e) → class_named tables e.name ≡ Some c
     → is_some e.read ≡ is_loaded tables c
     → is_none e.super_class ≡ (c == built_in tables Object)
     → IsTrue (option_map_or (is_super_in tables c) e.super_class true)
@@ -72,7 +72,7 @@ face_read = record { name = refl; flags = refl; super_class = refl; interfaces =
 
 each_class : AtEach (IsClassLinked tables) tables.classes
 unfolding tables built_in_infos built_in_info built_in_class built_in_methods built_in_method
-each_class = (class_linked 0 _ (lit< tt) a_read refl refl refl refl refl refl refl refl refl (lit< tt) refl, (class_linked 1 _ (lit< tt) face_read refl refl refl refl refl refl refl refl refl (lit< tt) refl, (class_linked 2 _ (lit< tt) tt refl refl refl refl refl refl refl refl refl (lit< tt) refl, (class_linked 3 _ (lit< tt) tt refl refl refl refl refl refl refl refl refl (lit< tt) refl, (class_linked 4 _ (lit< tt) tt refl refl refl refl refl refl refl refl refl (lit< tt) refl, (class_linked 5 _ (lit< tt) tt refl refl refl refl refl refl refl refl refl (lit< tt) refl, (class_linked 6 _ (lit< tt) tt refl refl refl refl refl refl refl refl refl (lit< tt) refl, (class_linked 7 _ (lit< tt) tt refl refl refl refl refl refl refl refl refl (lit< tt) refl, (class_linked 8 _ (lit< tt) tt refl refl refl refl refl refl refl refl refl (lit< tt) refl, (class_linked 9 _ (lit< tt) tt refl refl refl refl refl refl refl refl refl (lit< tt) refl, (class_linked 10 _ (lit< tt) tt refl refl refl refl refl refl refl refl refl (lit< tt) refl, (class_linked 11 _ (lit< tt) tt refl refl refl refl refl refl refl refl refl (lit< tt) refl, (class_linked 12 _ (lit< tt) tt refl refl refl refl refl refl refl refl refl (lit< tt) refl, (class_linked 13 _ (lit< tt) tt refl refl refl refl refl refl refl refl refl (lit< tt) refl, (class_linked 14 _ (lit< tt) tt refl refl refl refl refl refl refl refl refl (lit< tt) refl, (class_linked 15 _ (lit< tt) tt refl refl refl refl refl refl refl refl refl (lit< tt) refl, (class_linked 16 _ (lit< tt) tt refl refl refl refl refl refl refl refl refl (lit< tt) refl, (class_linked 17 _ (lit< tt) tt refl refl refl refl refl refl refl refl refl (lit< tt) refl, (class_linked 18 _ (lit< tt) tt refl refl refl refl refl refl refl refl refl (lit< tt) refl, (class_linked 19 _ (lit< tt) tt refl refl refl refl refl refl refl refl refl (lit< tt) refl, (class_linked 20 _ (lit< tt) tt refl refl refl refl refl refl refl refl refl (lit< tt) refl, (class_linked 21 _ (lit< tt) tt refl refl refl refl refl refl refl refl refl (lit< tt) refl, (class_linked 22 _ (lit< tt) tt refl refl refl refl refl refl refl refl refl (lit< tt) refl, tt)))))))))))))))))))))))
+each_class = (class_linked 0 _ (lit< tt) a_read refl refl refl refl refl refl refl refl refl (lit< tt) refl, (class_linked 1 _ (lit< tt) face_read refl refl refl refl refl refl refl refl refl (lit< tt) refl, (class_linked 2 _ (lit< tt) tt refl refl refl refl refl refl refl refl refl (lit< tt) refl, (class_linked 3 _ (lit< tt) tt refl refl refl refl refl refl refl refl refl (lit< tt) refl, (class_linked 4 _ (lit< tt) tt refl refl refl refl refl refl refl refl refl (lit< tt) refl, (class_linked 5 _ (lit< tt) tt refl refl refl refl refl refl refl refl refl (lit< tt) refl, (class_linked 6 _ (lit< tt) tt refl refl refl refl refl refl refl refl refl (lit< tt) refl, (class_linked 7 _ (lit< tt) tt refl refl refl refl refl refl refl refl refl (lit< tt) refl, (class_linked 8 _ (lit< tt) tt refl refl refl refl refl refl refl refl refl (lit< tt) refl, (class_linked 9 _ (lit< tt) tt refl refl refl refl refl refl refl refl refl (lit< tt) refl, (class_linked 10 _ (lit< tt) tt refl refl refl refl refl refl refl refl refl (lit< tt) refl, (class_linked 11 _ (lit< tt) tt refl refl refl refl refl refl refl refl refl (lit< tt) refl, (class_linked 12 _ (lit< tt) tt refl refl refl refl refl refl refl refl refl (lit< tt) refl, (class_linked 13 _ (lit< tt) tt refl refl refl refl refl refl refl refl refl (lit< tt) refl, (class_linked 14 _ (lit< tt) tt refl refl refl refl refl refl refl refl refl (lit< tt) refl, (class_linked 15 _ (lit< tt) tt refl refl refl refl refl refl refl refl refl (lit< tt) refl, (class_linked 16 _ (lit< tt) tt refl refl refl refl refl refl refl refl refl (lit< tt) refl, (class_linked 17 _ (lit< tt) tt refl refl refl refl refl refl refl refl refl (lit< tt) refl, (class_linked 18 _ (lit< tt) tt refl refl refl refl refl refl refl refl refl (lit< tt) refl, (class_linked 19 _ (lit< tt) tt refl refl refl refl refl refl refl refl refl (lit< tt) refl, (class_linked 20 _ (lit< tt) tt refl refl refl refl refl refl refl refl refl (lit< tt) refl, (class_linked 21 _ (lit< tt) tt refl refl refl refl refl refl refl refl refl (lit< tt) refl, (class_linked 22 _ (lit< tt) tt refl refl refl refl refl refl refl refl refl (lit< tt) refl, (class_linked 23 _ (lit< tt) tt refl refl refl refl refl refl refl refl refl (lit< tt) refl, tt))))))))))))))))))))))))
 
 -- ---- each method
 
@@ -103,7 +103,7 @@ method_linked m i alone desc params result body one_each resolved one_catch_each
 
 each_method : AtEach (IsMethodLinked tables) tables.methods
 unfolding tables built_in_infos built_in_info built_in_class built_in_methods built_in_method
-each_method = (method_linked 0 _ refl refl refl refl refl refl refl refl refl refl refl, (method_linked 1 _ refl refl refl refl refl refl refl refl refl refl refl, (method_linked 2 _ refl refl refl refl refl refl refl refl refl refl refl, (method_linked 3 _ refl refl refl refl refl refl refl refl refl refl refl, (method_linked 4 _ refl refl refl refl refl refl refl refl refl refl refl, (method_linked 5 _ refl refl refl refl refl refl refl refl refl refl refl, (method_linked 6 _ refl refl refl refl refl refl refl refl refl refl refl, (method_linked 7 _ refl refl refl refl refl refl refl refl refl refl refl, (method_linked 8 _ refl refl refl refl refl refl refl refl refl refl refl, (method_linked 9 _ refl refl refl refl refl refl refl refl refl refl refl, (method_linked 10 _ refl refl refl refl refl refl refl refl refl refl refl, (method_linked 11 _ refl refl refl refl refl refl refl refl refl refl refl, (method_linked 12 _ refl refl refl refl refl refl refl refl refl refl refl, (method_linked 13 _ refl refl refl refl refl refl refl refl refl refl refl, (method_linked 14 _ refl refl refl refl refl refl refl refl refl refl refl, (method_linked 15 _ refl refl refl refl refl refl refl refl refl refl refl, (method_linked 16 _ refl refl refl refl refl refl refl refl refl refl refl, (method_linked 17 _ refl refl refl refl refl refl refl refl refl refl refl, (method_linked 18 _ refl refl refl refl refl refl refl refl refl refl refl, (method_linked 19 _ refl refl refl refl refl refl refl refl refl refl refl, (method_linked 20 _ refl refl refl refl refl refl refl refl refl refl refl, (method_linked 21 _ refl refl refl refl refl refl refl refl refl refl refl, (method_linked 22 _ refl refl refl refl refl refl refl refl refl refl refl, (method_linked 23 _ refl refl refl refl refl refl refl refl refl refl refl, (method_linked 24 _ refl refl refl refl refl refl refl refl refl refl refl, (method_linked 25 _ refl refl refl refl refl refl refl refl refl refl refl, tt))))))))))))))))))))))))))
+each_method = (method_linked 0 _ refl refl refl refl refl refl refl refl refl refl refl, (method_linked 1 _ refl refl refl refl refl refl refl refl refl refl refl, (method_linked 2 _ refl refl refl refl refl refl refl refl refl refl refl, (method_linked 3 _ refl refl refl refl refl refl refl refl refl refl refl, (method_linked 4 _ refl refl refl refl refl refl refl refl refl refl refl, (method_linked 5 _ refl refl refl refl refl refl refl refl refl refl refl, (method_linked 6 _ refl refl refl refl refl refl refl refl refl refl refl, (method_linked 7 _ refl refl refl refl refl refl refl refl refl refl refl, (method_linked 8 _ refl refl refl refl refl refl refl refl refl refl refl, (method_linked 9 _ refl refl refl refl refl refl refl refl refl refl refl, (method_linked 10 _ refl refl refl refl refl refl refl refl refl refl refl, (method_linked 11 _ refl refl refl refl refl refl refl refl refl refl refl, (method_linked 12 _ refl refl refl refl refl refl refl refl refl refl refl, (method_linked 13 _ refl refl refl refl refl refl refl refl refl refl refl, (method_linked 14 _ refl refl refl refl refl refl refl refl refl refl refl, (method_linked 15 _ refl refl refl refl refl refl refl refl refl refl refl, (method_linked 16 _ refl refl refl refl refl refl refl refl refl refl refl, (method_linked 17 _ refl refl refl refl refl refl refl refl refl refl refl, (method_linked 18 _ refl refl refl refl refl refl refl refl refl refl refl, (method_linked 19 _ refl refl refl refl refl refl refl refl refl refl refl, (method_linked 20 _ refl refl refl refl refl refl refl refl refl refl refl, (method_linked 21 _ refl refl refl refl refl refl refl refl refl refl refl, (method_linked 22 _ refl refl refl refl refl refl refl refl refl refl refl, (method_linked 23 _ refl refl refl refl refl refl refl refl refl refl refl, (method_linked 24 _ refl refl refl refl refl refl refl refl refl refl refl, (method_linked 25 _ refl refl refl refl refl refl refl refl refl refl refl, (method_linked 26 _ refl refl refl refl refl refl refl refl refl refl refl, tt)))))))))))))))))))))))))))
 
 pub linked : Linked tables
 unfolding tables built_in_infos built_in_info built_in_class built_in_methods built_in_method

@@ -150,7 +150,7 @@ no_code n m none body e = let clash = sym none ∙ e in absurd cc
 
 each_typed : AtEach Typed tables.methods
 unfolding tables built_in_methods built_in_method built_in_class
-each_typed = (init_typed, (m_typed, (main_typed, (no_code 3 _ refl, (no_code 4 _ refl, (no_code 5 _ refl, (no_code 6 _ refl, (no_code 7 _ refl, (no_code 8 _ refl, (no_code 9 _ refl, (no_code 10 _ refl, (no_code 11 _ refl, (no_code 12 _ refl, (no_code 13 _ refl, (no_code 14 _ refl, (no_code 15 _ refl, (no_code 16 _ refl, (no_code 17 _ refl, (no_code 18 _ refl, (no_code 19 _ refl, (no_code 20 _ refl, (no_code 21 _ refl, (no_code 22 _ refl, (no_code 23 _ refl, (no_code 24 _ refl, (no_code 25 _ refl, tt))))))))))))))))))))))))))
+each_typed = (init_typed, (m_typed, (main_typed, (no_code 3 _ refl, (no_code 4 _ refl, (no_code 5 _ refl, (no_code 6 _ refl, (no_code 7 _ refl, (no_code 8 _ refl, (no_code 9 _ refl, (no_code 10 _ refl, (no_code 11 _ refl, (no_code 12 _ refl, (no_code 13 _ refl, (no_code 14 _ refl, (no_code 15 _ refl, (no_code 16 _ refl, (no_code 17 _ refl, (no_code 18 _ refl, (no_code 19 _ refl, (no_code 20 _ refl, (no_code 21 _ refl, (no_code 22 _ refl, (no_code 23 _ refl, (no_code 24 _ refl, (no_code 25 _ refl, (no_code 26 _ refl, tt)))))))))))))))))))))))))))
 
 pub typed : WellTyped tables
 typed = record { frames = frames; methods = λ n m body e b. at_place Typed tables.methods n m each_typed e body b }

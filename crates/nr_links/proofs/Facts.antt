@@ -13,7 +13,7 @@ use Rattle.nr_prog.specs.declared.parts.ClassParts.{ClassParts}
 use Rattle.nr_prog.specs.BodyText.{BodyFor, instrs}
 use Rattle.nr_prog.specs.Members.{has_flag, is_abstract}
 use Rattle.nr_linked.specs.declared.program.built_in.BuiltIn.{BuiltIn}
-use Rattle.nr_linked.specs.declared.program.built_in.BuiltIn.TheVariants.{Object, Cloneable, Throwable, ArithmeticException, ArrayStoreException, ClassCastException, NegativeArraySizeException, NullPointerException, ArrayIndexOutOfBoundsException, IncompatibleClassChangeError, AbstractMethodError, Serializable}
+use Rattle.nr_linked.specs.declared.program.built_in.BuiltIn.TheVariants.{Object, Cloneable, Throwable, ArithmeticException, ArrayStoreException, ClassCastException, NegativeArraySizeException, NullPointerException, ArrayIndexOutOfBoundsException, IncompatibleClassChangeError, AbstractMethodError, Serializable, RemoteFault}
 use Rattle.nr_linked.specs.declared.program.tables.ClassInfo.{ClassInfo}
 use Rattle.nr_linked.specs.declared.program.tables.MethodInfo.{MethodInfo}
 use Rattle.nr_linked.specs.declared.program.tables.ProgramTables.{ProgramTables}
@@ -86,6 +86,7 @@ thrown P linked NullPointerException p = (info_above P linked NullPointerExcepti
 thrown P linked ArrayIndexOutOfBoundsException p = (info_above P linked ArrayIndexOutOfBoundsException Throwable refl, info_makeable P linked ArrayIndexOutOfBoundsException refl refl)
 thrown P linked IncompatibleClassChangeError p = (info_above P linked IncompatibleClassChangeError Throwable refl, info_makeable P linked IncompatibleClassChangeError refl refl)
 thrown P linked AbstractMethodError p = (info_above P linked AbstractMethodError Throwable refl, info_makeable P linked AbstractMethodError refl refl)
+thrown P linked RemoteFault p = (info_above P linked RemoteFault Throwable refl, info_makeable P linked RemoteFault refl refl)
 thrown P linked b p = absurd cc
 
 makeable : (P : ProgramTables) → Linked P → (c : ℕ) → IsTrue (is_makeable P c) → IsTrue (is_above P c c)

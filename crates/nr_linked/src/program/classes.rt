@@ -1,7 +1,7 @@
 //! Classes by their numbers and names.
 
 ghost use Rattle.std.specs.Prelude.{◌≡◌, ◌<◌, length, IfSome, option_copied};
-ghost use Rattle.nr_linked.specs.BuiltIns.{built_in, number};
+ghost use Rattle.nr_linked.specs.BuiltIns.{built_in};
 ghost use Rattle.nr_linked.specs.KindTexts.{class_name};
 ghost use Rattle.nr_linked.specs.Programs.{class_at, class_named, is_interface, method_at, super_of};
 
@@ -10,18 +10,6 @@ use super::flags::{INTERFACE, has_flag};
 use super::kind::{ClassId, MethodId};
 use super::tables::{ClassInfo, MethodInfo, ProgramTables};
 use nr_base::Name;
-
-impl BuiltIn {
-    /// How many there are.
-    pub const COUNT: usize = 21;
-
-    /// Its place among the built-in classes.
-    pub fn number(self) -> usize
-        ensures { result ≡ number self }
-    {
-        self as usize
-    }
-}
 
 impl ProgramTables {
     pub(super) fn class_at(&self, class: ClassId) -> Option<&ClassInfo>

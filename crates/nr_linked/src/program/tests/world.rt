@@ -44,6 +44,7 @@ b17 33 11 11 - 11 0
 b18 1537 11 11 - 11 0
 b19 1537 11 11 - 11 0
 b20 33 11 11 - 11 0
+b21 33 11 11 - 11 0
 ";
 
 // Each method: its name, its descriptor, its flags and whether it has a body.
