@@ -54,39 +54,39 @@ member_all f d (x ∷ xs) p q = elim (or_cases (x == d) (list_any (λ s. s == d)
 pub supers_of : ℕ → List ℕ
 supers_of c = option_map_or (λ (e : ClassInfo). e.supers) (class_at example c) []
 
-above_check : T (up_to 24 (λ c. list_all (λ d. list_all (λ e. is_above example c e) (supers_of d)) (supers_of c)))
+above_check : T (up_to 25 (λ c. list_all (λ d. list_all (λ e. is_above example c e) (supers_of d)) (supers_of c)))
 unfolding up_to supers_of example built_in_infos built_in_info built_in_class
 above_check = tt
 
-any_check : T (up_to 24 (λ d. not (admits_any example d) || list_all (λ e. admits_any example e) (supers_of d)))
+any_check : T (up_to 25 (λ d. not (admits_any example d) || list_all (λ e. admits_any example e) (supers_of d)))
 unfolding up_to supers_of example built_in_infos built_in_info built_in_class
 any_check = tt
 
-super_check : T (up_to 24 (λ c. option_map_or (λ d. is_above example c d) (super_of example c) true))
+super_check : T (up_to 25 (λ c. option_map_or (λ d. is_above example c d) (super_of example c) true))
 unfolding up_to supers_of example built_in_infos built_in_info built_in_class
 super_check = tt
 
-make_check : T (up_to 24 (λ c. not (is_makeable example c) || is_above example c c))
+make_check : T (up_to 25 (λ c. not (is_makeable example c) || is_above example c c))
 unfolding up_to supers_of example built_in_infos built_in_info built_in_class
 make_check = tt
 
-pub own_check : T (up_to 28 (λ n. option_map_or (λ (i : MethodInfo). is_none i.body || is_above example i.«class» i.«class») (method_at example n) true))
+pub own_check : T (up_to 29 (λ n. option_map_or (λ (i : MethodInfo). is_none i.body || is_above example i.«class» i.«class») (method_at example n) true))
 unfolding up_to supers_of example built_in_infos built_in_info built_in_class built_in_methods built_in_method
 own_check = tt
 
-slots_above_check : T (up_to 24 (λ c. list_all (λ d. nat_eq (length (slots_of example d)) 0 || nat_eq (length (slots_of example c)) 1) (supers_of c)))
+slots_above_check : T (up_to 25 (λ c. list_all (λ d. nat_eq (length (slots_of example d)) 0 || nat_eq (length (slots_of example c)) 1) (supers_of c)))
 unfolding up_to supers_of example built_in_infos built_in_info built_in_class
 slots_above_check = tt
 
-declared_check : T (up_to 24 (λ c. nat_eq (length (slots_of example c)) 0 || is_above example c 0))
+declared_check : T (up_to 25 (λ c. nat_eq (length (slots_of example c)) 0 || is_above example c 0))
 unfolding up_to supers_of example built_in_infos built_in_info built_in_class
 declared_check = tt
 
-slotted_check : T (up_to 24 (λ c. nat_eq (length (slots_of example c)) 0 || not (admits_any example c)))
+slotted_check : T (up_to 25 (λ c. nat_eq (length (slots_of example c)) 0 || not (admits_any example c)))
 unfolding up_to supers_of example built_in_infos built_in_info built_in_class
 slotted_check = tt
 
-pub count_check : T (up_to 28 (λ n. option_map_or (λ (i : MethodInfo). option_map_or (λ (b : Body). nat_eq (length i.resolved) (length b.instrs)) i.body true) (method_at example n) true))
+pub count_check : T (up_to 29 (λ n. option_map_or (λ (i : MethodInfo). option_map_or (λ (b : Body). nat_eq (length i.resolved) (length b.instrs)) i.body true) (method_at example n) true))
 unfolding up_to supers_of example built_in_infos built_in_info built_in_class built_in_methods built_in_method
 count_check = tt
 
@@ -103,7 +103,7 @@ same_results a b = false
 unfoldable pub is_selected : ℕ → MethodInfo → MethodInfo → Bool
 is_selected c i j = is_above example c j.«class» && (nat_eq (length i.params) 0 && (nat_eq (length j.params) 0 && same_results i.result j.result))
 
-pub select_check : T (up_to 28 (λ n. option_map_or (λ (i : MethodInfo). is_static i.flags || up_to 24 (λ c. option_map_or (λ k. option_map_or (λ j. is_selected c i j) (method_at example k) false) (selected example n c) true)) (method_at example n) true))
+pub select_check : T (up_to 29 (λ n. option_map_or (λ (i : MethodInfo). is_static i.flags || up_to 25 (λ c. option_map_or (λ k. option_map_or (λ j. is_selected c i j) (method_at example k) false) (selected example n c) true)) (method_at example n) true))
 unfolding up_to supers_of example built_in_infos built_in_info built_in_class built_in_methods built_in_method is_selected same_results is_plain_result
 select_check = tt
 
@@ -114,11 +114,11 @@ place_below [] k x e = absurd (none_some e)
 place_below (y ∷ ys) zero x e = omega arith
 place_below (y ∷ ys) (suc k) x e = let l = place_below ys k x e in omega arith
 
-pub class_below : (c : ℕ) (e : ClassInfo) → class_at example c ≡ Some e → c < 24
+pub class_below : (c : ℕ) (e : ClassInfo) → class_at example c ≡ Some e → c < 25
 unfolding example built_in_infos
 class_below c e p = place_below example.classes c e p
 
-pub method_below : (n : ℕ) (i : MethodInfo) → method_at example n ≡ Some i → n < 28
+pub method_below : (n : ℕ) (i : MethodInfo) → method_at example n ≡ Some i → n < 29
 unfolding example built_in_methods built_in_class
 method_below n i p = place_below example.methods n i p
 
@@ -127,7 +127,7 @@ pub there : {X : Type 0} (f : X → Bool) (o : Option X) → T (option_map_or f 
 there f None p = absurd p
 there f (Some x) p = (x, refl, p)
 
-above_there : (c d : ℕ) → T (is_above example c d) → (c < 24) × T (list_any (λ s. s == d) (supers_of c))
+above_there : (c d : ℕ) → T (is_above example c d) → (c < 25) × T (list_any (λ s. s == d) (supers_of c))
 unfolding supers_of
 above_there c d p =
     let r = there (λ (e : ClassInfo). list_any (λ s. s == d) e.supers) (class_at example c) p in
@@ -137,7 +137,7 @@ pub above_above : (c d e : ℕ) → T (is_above example c d) → T (is_above exa
 above_above c d e p q =
     let a = above_there c d p in
     let b = above_there d e q in
-    member_all (λ e. is_above example c e) e (supers_of d) b.1 (member_all (λ d. list_all (λ e. is_above example c e) (supers_of d)) d (supers_of c) a.1 (each_below 24 _ above_check c a.0))
+    member_all (λ e. is_above example c e) e (supers_of d) b.1 (member_all (λ d. list_all (λ e. is_above example c e) (supers_of d)) d (supers_of c) a.1 (each_below 25 _ above_check c a.0))
 
 pub implied : (b c : Bool) → T (not b || c) → T b → T c
 implied true c p q = p
@@ -146,7 +146,7 @@ implied false c p q = absurd q
 pub any_up : (d e : ℕ) → T (admits_any example d) → T (is_above example d e) → T (admits_any example e)
 any_up d e p q =
     let a = above_there d e q in
-    member_all (λ e. admits_any example e) e (supers_of d) a.1 (implied (admits_any example d) _ (each_below 24 (λ d. not (admits_any example d) || list_all (λ e. admits_any example e) (supers_of d)) any_check d a.0) p)
+    member_all (λ e. admits_any example e) e (supers_of d) a.1 (implied (admits_any example d) _ (each_below 25 (λ d. not (admits_any example d) || list_all (λ e. admits_any example e) (supers_of d)) any_check d a.0) p)
 
 pub at_option : {X : Type 0} (f : X → Bool) (o : Option X) (x : X) → T (option_map_or f o true) → o ≡ Some x → T (f x)
 at_option f o x p e = subst (λ o. T (option_map_or f o true)) e p
@@ -154,20 +154,20 @@ at_option f o x p e = subst (λ o. T (option_map_or f o true)) e p
 pub super_above : (c d : ℕ) → super_of example c ≡ Some d → T (is_above example c d)
 super_above c d e =
     let r = of_class (class_at example c) refl e in
-    at_option (λ d. is_above example c d) (super_of example c) d (each_below 24 (λ c. option_map_or (λ d. is_above example c d) (super_of example c) true) super_check c r) e
+    at_option (λ d. is_above example c d) (super_of example c) d (each_below 25 (λ c. option_map_or (λ d. is_above example c d) (super_of example c) true) super_check c r) e
   where
-    of_class : (o : Option ClassInfo) → class_at example c ≡ o → option_and_then (λ (e : ClassInfo). e.super_class) o ≡ Some d → c < 24
+    of_class : (o : Option ClassInfo) → class_at example c ≡ o → option_and_then (λ (e : ClassInfo). e.super_class) o ≡ Some d → c < 25
     of_class None x e = absurd (none_some e)
     of_class (Some i) x e = class_below c i x
 
 pub makeable_above : (c : ℕ) → T (is_makeable example c) → T (is_above example c c)
 makeable_above c p =
     let r = there (λ (e : ClassInfo). not (is_abstract e.flags)) (class_at example c) (and_both (option_map_or (λ (e : ClassInfo). not (is_abstract e.flags)) (class_at example c) false) _ p).0 in
-    implied (is_makeable example c) _ (each_below 24 (λ c. not (is_makeable example c) || is_above example c c) make_check c (class_below c r.0 r.1)) p
+    implied (is_makeable example c) _ (each_below 25 (λ c. not (is_makeable example c) || is_above example c c) make_check c (class_below c r.0 r.1)) p
 
 -- ---- slots
 
-slots_are : (c : ℕ) → (slots_of example c ≡ []) ⊎ ((slots_of example c ≡ field ∷ []) × (c < 24))
+slots_are : (c : ℕ) → (slots_of example c ≡ []) ⊎ ((slots_of example c ≡ field ∷ []) × (c < 25))
 unfolding example built_in_infos built_in_info built_in_class
 slots_are zero = inr (refl, omega arith)
 slots_are (suc zero) = inr (refl, omega arith)
@@ -196,7 +196,8 @@ slots_are (suc (suc n)) = inl (rest n)
     rest (suc (suc (suc (suc (suc (suc (suc (suc (suc (suc (suc (suc (suc (suc (suc (suc (suc (suc (suc zero))))))))))))))))))) = refl
     rest (suc (suc (suc (suc (suc (suc (suc (suc (suc (suc (suc (suc (suc (suc (suc (suc (suc (suc (suc (suc zero)))))))))))))))))))) = refl
     rest (suc (suc (suc (suc (suc (suc (suc (suc (suc (suc (suc (suc (suc (suc (suc (suc (suc (suc (suc (suc (suc zero))))))))))))))))))))) = refl
-    rest (suc (suc (suc (suc (suc (suc (suc (suc (suc (suc (suc (suc (suc (suc (suc (suc (suc (suc (suc (suc (suc (suc n)))))))))))))))))))))) = refl
+    rest (suc (suc (suc (suc (suc (suc (suc (suc (suc (suc (suc (suc (suc (suc (suc (suc (suc (suc (suc (suc (suc (suc zero)))))))))))))))))))))) = refl
+    rest (suc (suc (suc (suc (suc (suc (suc (suc (suc (suc (suc (suc (suc (suc (suc (suc (suc (suc (suc (suc (suc (suc (suc n))))))))))))))))))))))) = refl
 
 no_slot : (c i : ℕ) (s : SlotInfo) → slots_of example c ≡ [] → slice_get (slots_of example c) i ≡ Some s → ⊥
 no_slot c i s e p = none_some (subst (λ xs. slice_get xs i ≡ Some s) e p)
@@ -206,14 +207,14 @@ only_slot zero s e = some_same e
 only_slot (suc i) s e = absurd (none_some e)
 
 -- a class with a slot
-has_slot : (f : ℕ → Bool) → T (up_to 24 (λ c. nat_eq (length (slots_of example c)) 0 || f c)) → (c : ℕ) → slots_of example c ≡ field ∷ [] → c < 24 → T (f c)
-has_slot f p c e l = subst (λ xs. T (nat_eq (length xs) 0 || f c)) e (each_below 24 (λ c. nat_eq (length (slots_of example c)) 0 || f c) p c l)
+has_slot : (f : ℕ → Bool) → T (up_to 25 (λ c. nat_eq (length (slots_of example c)) 0 || f c)) → (c : ℕ) → slots_of example c ≡ field ∷ [] → c < 25 → T (f c)
+has_slot f p c e l = subst (λ xs. T (nat_eq (length xs) 0 || f c)) e (each_below 25 (λ c. nat_eq (length (slots_of example c)) 0 || f c) p c l)
 
 pub inherited : (c d i : ℕ) (s : SlotInfo) → T (is_above example c d) → slice_get (slots_of example d) i ≡ Some s → slice_get (slots_of example c) i ≡ Some s
 inherited c d i s p e = elim (slots_are d) [
   | inl z ↦ absurd (no_slot d i s z e)
   | inr z ↦ (let a = above_there c d p in
-      let q = member_all (λ d. nat_eq (length (slots_of example d)) 0 || nat_eq (length (slots_of example c)) 1) d (supers_of c) a.1 (each_below 24 _ slots_above_check c a.0) in
+      let q = member_all (λ d. nat_eq (length (slots_of example d)) 0 || nat_eq (length (slots_of example c)) 1) d (supers_of c) a.1 (each_below 25 _ slots_above_check c a.0) in
       let r : T (nat_eq (length (slots_of example c)) 1) = subst (λ xs. T (nat_eq (length xs) 0 || nat_eq (length (slots_of example c)) 1)) z.0 q in
       elim (slots_are c) [ inl y ↦ absurd (subst (λ xs. T (nat_eq (length xs) 1)) y r) | inr y ↦ subst (λ xs. slice_get xs i ≡ Some s) (z.0 ∙ sym y.0) e ])
 ]

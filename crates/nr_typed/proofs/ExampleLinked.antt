@@ -255,7 +255,10 @@ sites n i at s is e = at_place SitesAt example.methods (
                                                       λ at s e. absurd (none_some e),
                                                       (
                                                         λ at s e. absurd (none_some e),
-                                                        tt,
+                                                        (
+                                                          λ at s e. absurd (none_some e),
+                                                          tt,
+                                                        ),
                                                       ),
                                                     ),
                                                   ),

@@ -50,6 +50,7 @@ thrown built_ins.AbstractMethodError p = (refl, refl)
 thrown built_ins.Serializable p = absurd (yes false p)
 thrown built_ins.Restorable p = absurd (yes false p)
 thrown built_ins.Out p = absurd (yes false p)
+thrown built_ins.RemoteFault p = (refl, refl)
 
 -- ---- selection
 
@@ -123,12 +124,12 @@ module _ (P : ProgramTables) (c : ℕ) (none : class_at P c ≡ None) where
 pub selects : (n c k : ℕ) (i j : MethodInfo) → method_at example n ≡ Some i → is_static i.flags ≡ false → is_private i.flags ≡ false → selected example n c ≡ Some k → method_at example k ≡ Some j → Selected example i c j
 selects n c k i j is_i instance hid e is_j = by_class (class_at example c) refl
   where
-    below : c < 24 → Selected example i c j
+    below : c < 25 → Selected example i c j
     below l =
-        let a = at_option (λ (i : MethodInfo). is_static i.flags || up_to 24 (λ c. option_map_or (λ k. option_map_or (λ j. is_selected c i j) (method_at example k) false) (selected example n c) true)) (method_at example n) i
-        (each_below 28 (λ n. option_map_or (λ (i : MethodInfo). is_static i.flags || up_to 24 (λ c. option_map_or (λ k. option_map_or (λ j. is_selected c i j) (method_at example k) false) (selected example n c) true)) (method_at example n) true) select_check n (method_below n i is_i)) is_i in
+        let a = at_option (λ (i : MethodInfo). is_static i.flags || up_to 25 (λ c. option_map_or (λ k. option_map_or (λ j. is_selected c i j) (method_at example k) false) (selected example n c) true)) (method_at example n) i
+        (each_below 29 (λ n. option_map_or (λ (i : MethodInfo). is_static i.flags || up_to 25 (λ c. option_map_or (λ k. option_map_or (λ j. is_selected c i j) (method_at example k) false) (selected example n c) true)) (method_at example n) true) select_check n (method_below n i is_i)) is_i in
         let b = second (is_static i.flags) _ instance a in
-        let d = at_option (λ k. option_map_or (λ j. is_selected c i j) (method_at example k) false) (selected example n c) k (each_below 24 (λ c. option_map_or (λ k. option_map_or (λ j. is_selected c i j) (method_at example k) false) (selected example n c) true) b c l) e in
+        let d = at_option (λ k. option_map_or (λ j. is_selected c i j) (method_at example k) false) (selected example n c) k (each_below 25 (λ c. option_map_or (λ k. option_map_or (λ j. is_selected c i j) (method_at example k) false) (selected example n c) true) b c l) e in
         of_selected c i j (subst (λ o. T (option_map_or (λ j. is_selected c i j) o false)) is_j d)
       where
         second : (x y : Bool) → x ≡ false → T (x || y) → T y
@@ -143,12 +144,12 @@ selects n c k i j is_i instance hid e is_j = by_class (class_at example c) refl
 
 pub own : (n : ℕ) (i : MethodInfo) (body : Body) → method_at example n ≡ Some i → i.body ≡ Some body → IsTrue (is_above example i.«class» i.«class»)
 own n i body is_i is_body =
-    let a = at_option (λ (i : MethodInfo). is_none i.body || is_above example i.«class» i.«class») (method_at example n) i (each_below 28 (λ n. option_map_or (λ (i : MethodInfo). is_none i.body || is_above example i.«class» i.«class») (method_at example n) true) own_check n (method_below n i is_i)) is_i in
+    let a = at_option (λ (i : MethodInfo). is_none i.body || is_above example i.«class» i.«class») (method_at example n) i (each_below 29 (λ n. option_map_or (λ (i : MethodInfo). is_none i.body || is_above example i.«class» i.«class») (method_at example n) true) own_check n (method_below n i is_i)) is_i in
     holds (is_above example i.«class» i.«class») (subst (λ b. T (is_none b || is_above example i.«class» i.«class»)) is_body a)
 
 pub one_each : (n : ℕ) (i : MethodInfo) (body : Body) → method_at example n ≡ Some i → i.body ≡ Some body → length i.resolved ≡ length body.instrs
 one_each n i body is_i is_body =
-    let a = at_option (λ (i : MethodInfo). option_map_or (λ (b : Body). nat_eq (length i.resolved) (length b.instrs)) i.body true) (method_at example n) i (each_below 28 (λ n. option_map_or (λ (i : MethodInfo). option_map_or (λ (b : Body). nat_eq (length i.resolved) (length b.instrs)) i.body true) (method_at example n) true) count_check n (method_below n i is_i)) is_i in
+    let a = at_option (λ (i : MethodInfo). option_map_or (λ (b : Body). nat_eq (length i.resolved) (length b.instrs)) i.body true) (method_at example n) i (each_below 29 (λ n. option_map_or (λ (i : MethodInfo). option_map_or (λ (b : Body). nat_eq (length i.resolved) (length b.instrs)) i.body true) (method_at example n) true) count_check n (method_below n i is_i)) is_i in
     eqb_yes (at_option (λ (b : Body). nat_eq (length i.resolved) (length b.instrs)) i.body body a is_body)
 
 abbrev BuiltInAt : ℕ → MethodInfo → Type 0
@@ -220,7 +221,10 @@ built_in_facts n i e none = at_place BuiltInAt example.methods (
                                                       λ x. record { out = λ y. (refl, refl, _, (3, omega arith, refl), refl, refl, refl); initialiser = λ p. absurd (yes false p) },
                                                       (
                                                         λ x. record { out = λ y. (refl, refl, _, (4, omega arith, refl), refl, refl, refl); initialiser = λ p. absurd (yes false p) },
-                                                        tt,
+                                                        (
+                                                          elsewhere 28 _ tt (λ p. refl),
+                                                          tt,
+                                                        ),
                                                       ),
                                                     ),
                                                   ),

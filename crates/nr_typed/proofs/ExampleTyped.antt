@@ -272,7 +272,10 @@ example_typed = record {
                                                         no_code 26 _ refl,
                                                         (
                                                           no_code 27 _ refl,
-                                                          tt,
+                                                          (
+                                                            no_code 28 _ refl,
+                                                            tt,
+                                                          ),
                                                         ),
                                                       ),
                                                     ),
