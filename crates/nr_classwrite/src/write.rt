@@ -4,6 +4,7 @@ ghost use Rattle.std.specs.Prelude.{◌≡◌, IfOk, Ok};
 ghost use Rattle.nr_classread.specs.ClassReading.{class_of};
 ghost use Rattle.nr_classread.specs.ClassText.{ReadsAs};
 ghost use Rattle.nr_classwrite.specs.Faults.{IsAnswer, class_fault};
+ghost use Rattle.nr_classwrite.specs.Text.{class_text};
 
 mod attribute;
 mod class;
@@ -30,6 +31,7 @@ use std::alloc::Global;
 /// has more items than its count can say; `NoAttrName` where an attribute is needed and no Utf8 entry of
 /// the constant pool spells its name. `NoMemory` for want of memory.
 pub fn write_class(alloc: Global, class: &Class) -> Result<Vec<u8>, WriteFault>
+    ensures text { IfOk result (λ bytes. bytes.items ≡ class_text class.now) }
     ensures spelled { IfOk result (λ bytes. ReadsAs bytes.items class.now) }
     ensures back { IfOk result (λ bytes. class_of bytes.items ≡ Ok class.now) }
     ensures exact { IsAnswer result (class_fault class.now) }

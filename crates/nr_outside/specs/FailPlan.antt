@@ -1,11 +1,12 @@
 -- Which calls of an object in memory are to fail. The project's own rule.
-use Rattle.std.specs.Prelude.{◌≡◌, ℕ, ◌+◌, ◌-◌, ◌^◌, ◌==◌, Bool, min}
+use Rattle.std.specs.Prelude.{◌≡◌, ℕ, ◌==◌, Bool}
 use Rattle.std.specs.List.{list_any}
+use Rattle.nr_outside.specs.Calls.{next_count}
 use Rattle.nr_outside.specs.declared.fail_plan.FailPlan.{FailPlan}
 
--- the number of the next call; the count ends at 2^64 - 1
+-- the number of the next call
 abbrev pub next_call : FailPlan → ℕ
-next_call p = min (p.calls + 1) (2 ^ 64 - 1)
+next_call p = next_count p.calls
 
 -- whether the next call is to fail
 unfoldable pub is_planned : FailPlan → Bool

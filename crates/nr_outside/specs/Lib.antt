@@ -1,3 +1,4 @@
+pub mod Calls
 pub mod FailPlan
 pub mod Causes
 pub mod Bytes

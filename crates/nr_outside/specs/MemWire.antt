@@ -34,6 +34,10 @@ mem_wire_pieces w = link_pieces w.live
 abbrev pub mem_wire_scripts : MemWire → List (List (List ℕ))
 mem_wire_scripts w = map script_pieces w.scripts.items
 
+-- how often it was called
+abbrev pub mem_wire_calls : MemWire → ℕ
+mem_wire_calls w = w.plan.calls
+
 -- the numbers of its calls that are to fail
 abbrev pub mem_wire_fails : MemWire → List ℕ
 mem_wire_fails w = w.plan.fails.items

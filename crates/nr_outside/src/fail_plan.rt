@@ -18,6 +18,13 @@ impl FailPlan {
         FailPlan { fails, calls: 0 }
     }
 
+    // How many calls there were.
+    pub fn calls(&self) -> u64
+        ensures { result ≡ self.now.calls }
+    {
+        self.calls
+    }
+
     // Counts a call, and says whether it is to fail.
     #[tactic(auto, unfolding(crate::specs::FailPlan::is_planned))]
     pub fn is_next_to_fail(&mut self) -> bool

@@ -1,6 +1,7 @@
 //! A folder of class files.
 ghost use Rattle.std.specs.Prelude.{◌≡◌, ◌≢◌, ◌⊎◌, ◌≤◌, List, ℕ, map, None, vec_len, IfOk, IsErrOf, IsPermutation, IsTrue};
 ghost use Rattle.std.specs.String.{string_bytes};
+ghost use Rattle.nr_outside.specs.Calls.{next_count};
 ghost use Rattle.nr_outside.specs.Causes.{HasCause, Rose};
 ghost use Rattle.nr_outside.specs.Folder.{ToldFile, class_paths, file_at, is_each_once, Reads};
 
@@ -18,16 +19,19 @@ pub use real::RealFolder;
 
 /// Where class files are listed and read.
 ///
-/// A folder may tell its files, which no call changes. It counts its faults: reads of a path that
+/// A folder may tell its files, which no call changes, and how many calls were made on it. It counts its faults: reads of a path that
 /// its told files lack, and all others; one that tells nothing counts all among the others. A
 /// count rises where a call fails, and stands still otherwise; one that is 2^64 - 1 stays there and
 /// counts as risen.
 pub trait Folder {
-    /// It tells its files.
+    /// It tells its files, and how often it was listed or read.
     ghost Tells: { Type 0 };
 
     /// Its files.
     ghost files: { Self → List ToldFile };
+
+    /// How often it was listed or read.
+    ghost calls: { Self → ℕ };
 
     /// How often a path was read that the told files lack.
     ghost lacks: { Self → ℕ };
@@ -41,6 +45,7 @@ pub trait Folder {
         ensures files { Tells → files self.new ≡ files self.old }
         ensures names { Tells → IfOk result (λ names. IsPermutation
             (class_paths dir.now (files self.old)) (map string_bytes names.items)) }
+        ensures calls { Tells → calls self.new ≡ next_count (calls self.old) }
         ensures cause { HasCause (faults self.old) (faults self.new) result }
         ensures lacks { lacks self.new ≡ lacks self.old };
 
@@ -49,6 +54,7 @@ pub trait Folder {
         ensures files { Tells → files self.new ≡ files self.old }
         ensures bytes { Tells → Reads (file_at dir.now path.now (files self.old)) max result }
         ensures bound { IfOk result (λ bytes. vec_len bytes ≤ max) }
+        ensures calls { Tells → calls self.new ≡ next_count (calls self.old) }
         ensures faults { faults self.old ≤ faults self.new }
         ensures lacks { lacks self.old ≤ lacks self.new }
         ensures cause { IsErrOf result Fault.Failed → Rose (faults self.old) (faults self.new)

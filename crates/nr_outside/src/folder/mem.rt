@@ -24,13 +24,16 @@ impl MemFolder {
     ghost use Rattle.std.specs.Prelude.{◌≡◌, IsTrue, map};
     ghost use Rattle.nr_outside.specs.Folder.{is_each_once};
     ghost use Rattle.nr_outside.specs.Files.{told_of};
-    ghost use Rattle.nr_outside.specs.MemFolder.{mem_folder_files, mem_folder_fails};
+    ghost use Rattle.nr_outside.specs.MemFolder.{mem_folder_files, mem_folder_calls, mem_folder_fails};
 
     /// A folder of these files, each by its folder, its path there and its bytes. `fails` has the
     /// numbers, from 1, of the calls that are to fail. `are_each_once` tests the condition.
     pub fn new(files: Vec<(String, String, Vec<u8>)>, fails: Vec<u64>) -> Self
         requires { IsTrue (is_each_once (map told_of files.items)) }
         ensures files { mem_folder_files result ≡ map told_of files.items }
+        ensures calls { mem_folder_calls result ≡ 0 }
+        ensures lacks { ⟦<MemFolder as Folder>⟧.lacks result ≡ 0 }
+        ensures faults { ⟦<MemFolder as Folder>⟧.faults result ≡ 0 }
         ensures fails { mem_folder_fails result ≡ fails.items }
     {
         MemFolder {
@@ -39,6 +42,13 @@ impl MemFolder {
             lacks: 0,
             faults: 0,
         }
+    }
+
+    /// How often it was listed or read.
+    pub fn calls(&self) -> u64
+        ensures { result ≡ mem_folder_calls self.now }
+    {
+        self.plan.calls()
     }
 }
 
@@ -53,6 +63,8 @@ impl Folder for MemFolder {
     ghost Tells = { Unit {0} };
 
     ghost files = { λ f. map told_of f.files.items };
+
+    ghost calls = { λ f. f.plan.calls };
 
     ghost lacks = { λ f. f.lacks };
 

@@ -1,5 +1,5 @@
 // A folder of the system's. It tells nothing.
-ghost use Rattle.std.specs.Prelude.{◌≤◌, ◌<◌, [], IfOk, vec_len};
+ghost use Rattle.std.specs.Prelude.{◌≡◌, ◌≤◌, ◌<◌, [], IfOk, vec_len};
 ghost use Rattle.std.specs.Io.KnownBytes.{Consumes, IsAtEnd};
 
 use crate::counted::counted;
@@ -47,7 +47,10 @@ fn read_up_to<F: Read>(alloc: Global, file: &mut F, max: usize) -> io::Result<Ve
 
 impl<R: Files + AllocGlobal + Clone + Drop> RealFolder<R> {
     /// A folder of the file system that `rt` reaches.
-    pub fn new(rt: R) -> Self {
+    pub fn new(rt: R) -> Self
+        ensures lacks { ⟦<RealFolder<R> as Folder>⟧.lacks result ≡ 0 }
+        ensures faults { ⟦<RealFolder<R> as Folder>⟧.faults result ≡ 0 }
+    {
         RealFolder { rt, faults: 0 }
     }
 
@@ -64,6 +67,8 @@ impl<R: Files + AllocGlobal + Clone + Drop> Folder for RealFolder<R> {
     ghost Tells = { ⊥ };
 
     ghost files = { λ _. [] };
+
+    ghost calls = { λ _. 0 };
 
     ghost lacks = { λ _. 0 };
 

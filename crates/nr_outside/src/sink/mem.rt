@@ -16,11 +16,13 @@ pub struct MemSink {
 }
 
 impl MemSink {
-    ghost use Rattle.nr_outside.specs.MemSink.{mem_sink_bytes, mem_sink_fails};
+    ghost use Rattle.nr_outside.specs.MemSink.{mem_sink_bytes, mem_sink_writes, mem_sink_fails};
 
     /// An empty sink. `fails` has the numbers, from 1, of the writes that are to fail.
     pub fn new(alloc: Global, fails: Vec<u64>) -> Self
         ensures bytes { mem_sink_bytes result ≡ [] }
+        ensures writes { mem_sink_writes result ≡ 0 }
+        ensures faults { ⟦<MemSink as Sink>⟧.faults result ≡ 0 }
         ensures fails { mem_sink_fails result ≡ fails.items }
     {
         MemSink {
@@ -28,6 +30,13 @@ impl MemSink {
             plan: FailPlan::new(fails),
             faults: 0,
         }
+    }
+
+    /// How often it was written to.
+    pub fn writes(&self) -> u64
+        ensures { result ≡ mem_sink_writes self.now }
+    {
+        self.plan.calls()
     }
 
     /// What was written.
@@ -48,6 +57,8 @@ impl Sink for MemSink {
     ghost Tells = { Unit {0} };
 
     ghost bytes = { λ s. s.written.items };
+
+    ghost writes = { λ s. s.plan.calls };
 
     ghost faults = { λ s. s.faults };
 

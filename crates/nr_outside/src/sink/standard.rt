@@ -1,5 +1,5 @@
 // A sink over a writer of the system's. It tells nothing.
-ghost use Rattle.std.specs.Prelude.{[], OnOk};
+ghost use Rattle.std.specs.Prelude.{◌≡◌, [], OnOk};
 ghost use Rattle.std.specs.Io.KnownBytes.{Keeps, Appends};
 ghost use Rattle.nr_outside.specs.Causes.{HasCause};
 ghost use Rattle.nr_outside.specs.StdSink.{writer_of};
@@ -19,7 +19,10 @@ pub struct StdSink<W: Write + Drop> {
 
 impl<W: Write + Drop> StdSink<W> {
     /// A sink that writes to `inner`.
-    pub fn new(inner: W) -> Self {
+    pub fn new(inner: W) -> Self
+        ensures writer { writer_of result ≡ inner }
+        ensures faults { ⟦<StdSink<W> as Sink>⟧.faults result ≡ 0 }
+    {
         StdSink { inner, faults: 0 }
     }
 }
@@ -43,6 +46,8 @@ impl<W: Write + Drop> Sink for StdSink<W> {
     ghost Tells = { ⊥ };
 
     ghost bytes = { λ _. [] };
+
+    ghost writes = { λ _. 0 };
 
     ghost faults = { λ s. s.faults };
 

@@ -40,7 +40,7 @@ impl MemWire {
     ghost use Rattle.nr_outside.specs.Causes.{HasCause};
     ghost use Rattle.nr_outside.specs.Wire.{OpenIsTold};
     ghost use Rattle.nr_outside.specs.Link.{script_pieces};
-    ghost use Rattle.nr_outside.specs.MemWire.{mem_wire_opened, mem_wire_addresses, mem_wire_past, mem_wire_connections, mem_wire_events, mem_wire_pieces, mem_wire_scripts, mem_wire_fails};
+    ghost use Rattle.nr_outside.specs.MemWire.{mem_wire_opened, mem_wire_addresses, mem_wire_past, mem_wire_connections, mem_wire_events, mem_wire_pieces, mem_wire_scripts, mem_wire_calls, mem_wire_fails};
 
     /// A wire with nothing open, whose connections give these scripts in turn, each the pieces that
     /// it gives; a piece with no bytes is skipped. `fails` has the numbers, from 1, of the calls
@@ -50,7 +50,14 @@ impl MemWire {
         ensures addresses { mem_wire_addresses result ≡ [] }
         ensures past { mem_wire_past result ≡ [] }
         ensures events { mem_wire_events result ≡ [] }
+        ensures sent { ⟦<MemWire as Wire>⟧.sent result ≡ [] }
+        ensures given { ⟦<MemWire as Wire>⟧.given result ≡ [] }
+        ensures to_come { ⟦<MemWire as Wire>⟧.to_come result ≡ [] }
         ensures scripts { mem_wire_scripts result ≡ map script_pieces scripts.items }
+        ensures calls { mem_wire_calls result ≡ 0 }
+        ensures open_faults { ⟦<MemWire as Wire>⟧.open_faults result ≡ 0 }
+        ensures stream_faults { ⟦<MemWire as Wire>⟧.stream_faults result ≡ 0 }
+        ensures ends { ⟦<MemWire as Wire>⟧.ends result ≡ 0 }
         ensures fails { mem_wire_fails result ≡ fails.items }
     {
         MemWire {

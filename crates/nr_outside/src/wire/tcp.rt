@@ -23,7 +23,10 @@ pub struct TcpWire<R: Net + Drop> {
 impl<R: Net + Drop> TcpWire<R> {
     /// A wire over the network that `rt` reaches, with nothing open.
     pub fn new(rt: R) -> Self
-        ensures { ⟦<TcpWire<R> as Wire>⟧.opened result ≡ false }
+        ensures opened { ⟦<TcpWire<R> as Wire>⟧.opened result ≡ false }
+        ensures open_faults { ⟦<TcpWire<R> as Wire>⟧.open_faults result ≡ 0 }
+        ensures stream_faults { ⟦<TcpWire<R> as Wire>⟧.stream_faults result ≡ 0 }
+        ensures ends { ⟦<TcpWire<R> as Wire>⟧.ends result ≡ 0 }
     {
         TcpWire {
             rt,
