@@ -6,6 +6,6 @@ mod typing;
 
 pub use program::{
     Base, BuiltIn, ClassId, ClassInfo, Kind, MethodId, MethodInfo, Program, ProgramTables,
-    Resolved, SlotInfo, VFrame, VType, built_ins_are_linked,
+    Resolved, SlotInfo, VFrame, VType, built_in_classes_have_no_slot, built_ins_are_linked,
 };
 pub use typing::{OpFault, Verified, Wanted};

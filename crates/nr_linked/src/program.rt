@@ -2,8 +2,8 @@
 
 ghost use Rattle.std.specs.Prelude.{◌≡◌, ◌<◌, length, Some};
 ghost use Rattle.nr_linked.specs.BuiltIns.{built_in};
+ghost use Rattle.nr_linked.specs.Facts.{ProgramFacts};
 ghost use Rattle.nr_linked.specs.KindTexts.{class_name};
-ghost use Rattle.nr_linked.specs.Linked.{Linked};
 ghost use Rattle.nr_linked.specs.Programs.{class_at, class_named, method_at, params_of, result_of};
 ghost use Rattle.nr_linked.specs.Restorable.{is_restorable};
 ghost use Rattle.nr_linked.specs.Selection.{selected, static_named};
@@ -26,13 +26,13 @@ mod types;
 
 pub use built_in::BuiltIn;
 pub use kind::{Base, ClassId, Kind, MethodId};
-pub use law::built_ins_are_linked;
+pub use law::{built_in_classes_have_no_slot, built_ins_are_linked};
 use nr_base::Name;
 use std::marker::Model;
 pub use tables::{ClassInfo, MethodInfo, ProgramTables, Resolved, SlotInfo};
 pub use types::{VFrame, VType};
 
-/// A linked program. Contracts see it as its tables, which meet `Linked` of `specs/Linked.antt`.
+/// A linked program. Contracts see it as its tables, which keep `ProgramFacts` of `specs/Facts.antt`.
 #[derive(Debug, Drop)]
 pub struct Program {
     tables: ProgramTables,
@@ -40,28 +40,28 @@ pub struct Program {
 
 impl Model for Program {
     ghost use Rattle.nr_linked.specs.declared.program.tables.ProgramTables.{ProgramTables};
-    ghost use Rattle.nr_linked.specs.Linked.{Linked};
+    ghost use Rattle.nr_linked.specs.Facts.{ProgramFacts};
 
     ghost Value = { ProgramTables };
 
     ghost view = { λ p. p.tables };
 
-    ghost invariant = { λ p. Linked p.tables };
+    ghost invariant = { λ p. ProgramFacts p.tables };
 }
 
 impl Program {
-    /// The program of linked tables. It takes no memory.
+    /// The program of tables that linking gave. It takes no memory.
     pub fn new(tables: ProgramTables) -> Program
-        requires { Linked tables }
+        requires { ProgramFacts tables }
         ensures { result ≡ tables }
     {
         Program { tables }
     }
 
-    /// The tables. They are linked.
+    /// The tables. They have the facts that each program keeps.
     pub fn tables(&self) -> &ProgramTables
         ensures tables { result.now ≡ self.now }
-        ensures linked { Linked self.now }
+        ensures facts { ProgramFacts self.now }
     {
         &self.tables
     }

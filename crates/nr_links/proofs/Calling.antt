@@ -22,9 +22,9 @@ use Rattle.nr_links.specs.Found.{CanCall, IsCallFound}
 use Rattle.nr_links.specs.Links.{IsDecoded, Links}
 use Rattle.nr_links.specs.Resolution.{classes_for, interface_and_above, interfaces_of, is_called_at, method_classes, resolved_method, superinterfaces}
 use Rattle.nr_links.proofs.Described.{initialiser_result, same_bytes}
-use Rattle.nr_links.proofs.Places.{found, get_either, get_flat, passing}
-use Rattle.nr_links.proofs.Selecting.{held}
-use Rattle.nr_links.proofs.Upward.{above_trans, down, has_entry, step_of, superclass_above}
+use Rattle.nr_linked.proofs.Elements.{found, get_either, get_flat, passing}
+use Rattle.nr_linked.proofs.Declaring.{held}
+use Rattle.nr_linked.proofs.Ascents.{above_trans, down, has_entry, step_of, superclass_above}
 
 -- ---- where a method is looked for stands above
 

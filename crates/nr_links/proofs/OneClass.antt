@@ -24,11 +24,12 @@ use Rattle.nr_linked.specs.Subtypes.{Above, IsDirectlyAbove, further, itself}
 use Rattle.nr_links.specs.Entries.{is_rising}
 use Rattle.nr_links.specs.Links.{Links}
 use Rattle.nr_links.proofs.Descriptors.{one_class, one_desc, one_kind}
-use Rattle.nr_links.proofs.Listed.{is_listed, listed_all}
+use Rattle.nr_linked.proofs.Listed.{is_listed, listed_all}
 use Rattle.nr_links.proofs.OneNames.{class_back, kind_back, same_descs, same_names, same_past_classes, there, twins}
-use Rattle.nr_links.proofs.Places.{get_below, get_dropped, passes_at, passing, some_of}
-use Rattle.nr_links.proofs.SlotFacts.{not_loaded, super_in}
-use Rattle.nr_links.proofs.Upward.{down, step_of, up}
+use Rattle.nr_linked.proofs.Elements.{get_below, get_dropped, passes_at, passing, some_of}
+use Rattle.nr_linked.proofs.AnyReferences.{super_in}
+use Rattle.nr_linked.proofs.BuiltInEntries.{not_loaded}
+use Rattle.nr_linked.proofs.Ascents.{down, step_of, up}
 
 -- ---- rising lists
 
