@@ -133,7 +133,7 @@ module _ (classes : List Loaded) (P Q : ProgramTables) (L : Links classes P) (M 
   one_super c (Some s) (Some t) a b e =
       ap (λ s. Some s) (one_class P L.linked s t (and_parts (is_class_in P s) _ a).0 (class_back classes P Q L M t (and_parts (is_class_in Q t) _ b).0) (same_Some (class_name P s) (class_name P t) e))
 
-  face_in : (R : ProgramTables) (c : ℕ) → IsTrue (is_interface R c) → IsTrue (is_class_in R c)
+  pub face_in : (R : ProgramTables) (c : ℕ) → IsTrue (is_interface R c) → IsTrue (is_class_in R c)
   face_in R c p = let r = passing (λ (e : ClassInfo). Rattle.nr_prog.specs.Members.has_flag 0x0200 e.flags) (class_at R c) p in lt-ltb c (length R.classes) (slice_get_within R.classes c r.0 r.1)
 
   one_interfaces : (is js : List ℕ) → IsTrue (list_all (is_interface P) is) → IsTrue (list_all (is_interface Q) js) → map (λ c. Some (class_name P c)) is ≡ map (λ c. Some (class_name P c)) js → is ≡ js
