@@ -19,3 +19,4 @@ pub mod ClassNames
 pub mod DescLaws
 pub mod MethodLaws
 pub mod Stops
+pub mod DescTexts

@@ -28,6 +28,11 @@ abbrev pub IsBase : DescBase → Type 0
 IsBase (bases.Object name) = IsModifiedUtf8 name × IsClassName name
 IsBase base = Unit {0}
 
+-- the class that is named has a name in modified UTF-8, legal or not, as each descriptor of the program
+abbrev pub HasName : DescBase → Type 0
+HasName (bases.Object name) = IsModifiedUtf8 name
+HasName base = Unit {0}
+
 abbrev pub IsDesc : Desc → Type 0
 IsDesc d = (d.dims ≤ 255) × IsBase d.base
 
@@ -55,6 +60,10 @@ slots params = sum_by slots_of params
 
 abbrev pub IsMethodDesc : MethodDesc → Type 0
 IsMethodDesc m = AllByRecursion IsDesc m.params × IfSome m.result IsDesc × (slots m.params ≤ 254)
+
+-- each class that is named has a name in modified UTF-8
+abbrev pub HasNames : MethodDesc → Type 0
+HasNames m = AllByRecursion (λ d. HasName d.base) m.params × IfSome m.result (λ d. HasName d.base)
 
 -- the text of a method's descriptor
 abbrev pub method_desc : Grammar MethodDesc

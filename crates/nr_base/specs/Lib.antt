@@ -8,3 +8,4 @@ pub mod Names
 pub mod LegalNames
 pub mod Descs
 pub mod DescReading
+pub mod Lending

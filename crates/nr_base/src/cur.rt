@@ -1,6 +1,6 @@
 //! A cursor over bytes.
 
-ghost use Rattle.std.specs.Prelude.{◌≡◌, ◌<◌, ◌^◌, ◌↔◌, IsTrue, length};
+ghost use Rattle.std.specs.Prelude.{◌≡◌, ◌+◌, ◌<◌, ◌^◌, ◌↔◌, IsTrue, length};
 ghost use Rattle.std.specs.Int.{w8, w16, w32, w64};
 ghost use Rattle.nr_base.specs.Place.{at_of, start_of};
 ghost use Rattle.nr_base.specs.Bytes.{number_at, run_at};
@@ -48,9 +48,10 @@ impl<'a> Cur<'a> {
         }
     }
 
-    /// The offset of what is read next.
+    /// The offset of what is read next. The offsets of all that is left, and of its end, fit a `u32` too.
     pub fn at(&self) -> u32
-        ensures { result ≡ at_of self.now }
+        ensures place { result ≡ at_of self.now }
+        ensures fits { result + length self.now.rest < 2 ^ 32 }
     {
         self.total - self.rest.len() as u32
     }

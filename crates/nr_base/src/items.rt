@@ -1,6 +1,8 @@
 //! A list of values.
 
-ghost use Rattle.std.specs.Prelude.{◌≡◌, ◌==◌, [], ◌∷◌, ◌++◌, length, OnOk, OnErr, IfOk};
+ghost use Rattle.std.specs.Prelude.{◌≡◌, ◌==◌, [], ◌∷◌, ◌++◌, length, OnOk, OnErr, IfOk, slice_get};
+ghost use Rattle.std.specs.Option.{option_copied_mut};
+ghost use Rattle.std.specs.Borrow.{sem};
 
 mod compared;
 
@@ -25,6 +27,8 @@ impl<T> Model for Items<T> {
 }
 
 impl<T> Items<T> {
+    ghost use Rattle.nr_base.specs.Lending.{LendsItem, LendsItems};
+
     /// An empty list. It takes no memory.
     pub fn new(alloc: Global) -> Items<T>
         ensures { result ≡ [] }
@@ -53,6 +57,22 @@ impl<T> Items<T> {
         ensures { result.now ≡ self.now }
     {
         self.items.as_slice()
+    }
+
+    /// The elements, for writing.
+    pub fn as_mut_slice(&mut self) -> &mut [T]
+        ensures* writes_back { sem 𝓛 (LendsItems T.row self.entry result) }
+        ensures value { result.now ≡ self.old }
+    {
+        self.items.as_mut_slice()
+    }
+
+    /// The element at a place, for writing.
+    pub fn get_mut(&mut self, place: usize) -> Option<&mut T>
+        ensures* writes_back { sem 𝓛 (LendsItem T.row self.entry place result) }
+        ensures value { option_copied_mut result ≡ slice_get self.old place }
+    {
+        self.items.get_mut(place)
     }
 
     pub fn len(&self) -> usize

@@ -5,6 +5,7 @@
 mod cur;
 mod desc;
 mod items;
+mod law;
 mod name;
 mod put;
 mod result_word;
@@ -14,6 +15,7 @@ mod tests;
 pub use cur::{Cur, Short};
 pub use desc::{Desc, DescBase, DescFault, MethodDesc};
 pub use items::Items;
+pub use law::descriptors_are_names;
 pub use name::{Name, NameFault};
 pub use put::Put;
 pub use result_word::ResultWord;

@@ -4,6 +4,7 @@ use crate::{
     Cur, Desc, DescBase, DescFault, Items, MethodDesc, Name, NameFault, Put, ResultWord, Short,
 };
 use std::alloc::{AllocError, Global};
+use std::collections::HashMap;
 use std::process::Abort;
 use std::test::Fail;
 
@@ -276,5 +277,36 @@ fn lists(rt: HostRuntime) -> Result<(), Fail> {
     let b = Name::read(rt.alloc(), b"b").map_err(|_| AllocError)?;
     assert!(rt; a.clone()? == a && a < b);
     assert!(rt; ResultWord::Int(1) != ResultWord::Int(2));
+    Ok(())
+}
+
+#[test]
+fn writing_into_a_list(rt: HostRuntime) -> Result<(), Fail> {
+    let mut items = Items::of(rt.alloc(), &[7, 8])?;
+    items.as_mut_slice()[0] = 9;
+    if let Some(item) = items.get_mut(1) {
+        *item = 5;
+    }
+    assert_eq!(rt; items.as_slice(), [9, 5].as_slice());
+    assert!(rt; items.get_mut(2).is_none());
+    Ok(())
+}
+
+#[test]
+fn keys_of_maps(rt: HostRuntime) -> Result<(), DescFault> {
+    let table: [(&[u8], u32); 4] = [(b"()V", 0), (b"(I)V", 1), (b"([I)V", 2), (b"()La;", 3)];
+    let mut methods = HashMap::new(rt.alloc());
+    for (text, number) in table {
+        let old = methods
+            .insert(MethodDesc::read(rt.alloc(), text)?, number)
+            .map_err(|_| AllocError)?;
+        assert!(rt; old.is_none());
+    }
+    for (text, number) in table {
+        let desc = MethodDesc::read(rt.alloc(), text)?;
+        assert_eq!(rt; methods.get(&desc).copied(), Some(number));
+    }
+    let other = MethodDesc::read(rt.alloc(), b"()Lb;")?;
+    assert!(rt; methods.get(&other).is_none());
     Ok(())
 }
