@@ -5,7 +5,7 @@ use Rattle.std.specs.Option.{option_map_or, IfSome}
 use Rattle.std.proofs.lemmas.Option.{slice_get_within}
 use Rattle.nr_linked.specs.declared.program.tables.ProgramTables.{ProgramTables}
 use Rattle.nr_linked.specs.declared.program.tables.ClassInfo.{ClassInfo}
-use Rattle.nr_linked.specs.Linked.{Linked}
+use Rattle.nr_linked.specs.Facts.{ProgramFacts}
 use Rattle.nr_linked.specs.Programs.{class_at}
 use Rattle.nr_linked.specs.Slots.{slots_of}
 
@@ -42,5 +42,5 @@ few_in : (o : Option ClassInfo) → ((e : ClassInfo) → o ≡ Some e → length
 few_in None few = omega arith
 few_in (Some e) few = few e refl
 
-pub few_slots : (P : ProgramTables) (c : ℕ) → Linked P → length (slots_of P c) < 2 ^ 32
-few_slots P c linked = few_in (class_at P c) (λ e is. (linked.classes c e is).few_slots)
+pub few_slots : (P : ProgramTables) (c : ℕ) → ProgramFacts P → length (slots_of P c) < 2 ^ 32
+few_slots P c facts = few_in (class_at P c) (λ e is. (facts.linked.classes c e is).few_slots)

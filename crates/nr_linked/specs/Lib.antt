@@ -25,3 +25,6 @@ pub mod TypingFaults
 pub mod BuiltInTables
 pub mod Linked
 pub mod TypingFacts
+pub mod Layout
+pub mod Suited
+pub mod Facts

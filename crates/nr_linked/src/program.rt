@@ -1,10 +1,10 @@
 //! Linked programs.
 
-ghost use Rattle.std.specs.Prelude.{◌≡◌, ◌<◌, length, Some};
+ghost use Rattle.std.specs.Prelude.{◌≡◌, ◌<◌, length, option_copied, slice_get, Some};
 ghost use Rattle.nr_linked.specs.BuiltIns.{built_in};
+ghost use Rattle.nr_linked.specs.Facts.{ProgramFacts};
 ghost use Rattle.nr_linked.specs.KindTexts.{class_name};
-ghost use Rattle.nr_linked.specs.Linked.{Linked};
-ghost use Rattle.nr_linked.specs.Programs.{class_at, class_named, method_at, params_of, result_of};
+ghost use Rattle.nr_linked.specs.Programs.{class_at, class_named, method_at, params_of, result_of, super_of};
 ghost use Rattle.nr_linked.specs.Restorable.{is_restorable};
 ghost use Rattle.nr_linked.specs.Selection.{selected, static_named};
 ghost use Rattle.nr_linked.specs.Sendable.{is_sendable};
@@ -16,6 +16,7 @@ mod classes;
 mod flags;
 mod kind;
 mod law;
+mod method_name;
 mod selection;
 mod sendable;
 mod slots;
@@ -26,13 +27,15 @@ mod types;
 
 pub use built_in::BuiltIn;
 pub use kind::{Base, ClassId, Kind, MethodId};
-pub use law::built_ins_are_linked;
+pub use law::{built_in_classes_have_no_slot, built_ins_are_linked, static_methods_are_found};
+pub use method_name::MethodName;
 use nr_base::Name;
 use std::marker::Model;
+pub use superclasses::Superclasses;
 pub use tables::{ClassInfo, MethodInfo, ProgramTables, Resolved, SlotInfo};
 pub use types::{VFrame, VType};
 
-/// A linked program. Contracts see it as its tables, which meet `Linked` of `specs/Linked.antt`.
+/// A linked program. Contracts see it as its tables, which keep `ProgramFacts` of `specs/Facts.antt`.
 #[derive(Debug, Drop)]
 pub struct Program {
     tables: ProgramTables,
@@ -40,28 +43,28 @@ pub struct Program {
 
 impl Model for Program {
     ghost use Rattle.nr_linked.specs.declared.program.tables.ProgramTables.{ProgramTables};
-    ghost use Rattle.nr_linked.specs.Linked.{Linked};
+    ghost use Rattle.nr_linked.specs.Facts.{ProgramFacts};
 
     ghost Value = { ProgramTables };
 
     ghost view = { λ p. p.tables };
 
-    ghost invariant = { λ p. Linked p.tables };
+    ghost invariant = { λ p. ProgramFacts p.tables };
 }
 
 impl Program {
-    /// The program of linked tables. It takes no memory.
+    /// The program of tables that linking gave. It takes no memory.
     pub fn new(tables: ProgramTables) -> Program
-        requires { Linked tables }
+        requires { ProgramFacts tables }
         ensures { result ≡ tables }
     {
         Program { tables }
     }
 
-    /// The tables. They are linked.
+    /// The tables. They have the facts that each program keeps.
     pub fn tables(&self) -> &ProgramTables
         ensures tables { result.now ≡ self.now }
-        ensures linked { Linked self.now }
+        ensures facts { ProgramFacts self.now }
     {
         &self.tables
     }
@@ -80,6 +83,20 @@ impl Program {
         ensures { method_at self.now method ≡ Some result.now }
     {
         &self.tables.methods.as_slice()[method as usize]
+    }
+
+    /// The entry of a method, or `None` where the program has none of this number.
+    pub fn method_at(&self, method: MethodId) -> Option<&MethodInfo>
+        ensures { option_copied result ≡ method_at self.now method }
+    {
+        self.tables.method_at(method)
+    }
+
+    /// The superclass of a class; none for `java/lang/Object` and where the program has no such class.
+    pub fn super_class(&self, class: ClassId) -> Option<ClassId>
+        ensures { result ≡ super_of self.now class }
+    {
+        self.tables.super_of(class)
     }
 
     /// The class of that name, or `None` where the program has none.
@@ -129,6 +146,13 @@ impl Program {
         self.tables.slots_of(class).len() as u32
     }
 
+    /// The entry of a slot of the class's objects, or `None` where they have none of this number.
+    pub fn slot(&self, class: ClassId, slot: u32) -> Option<&SlotInfo>
+        ensures { option_copied result ≡ slice_get (slots_of self.now class) slot }
+    {
+        self.tables.slots_of(class).get(slot as usize)
+    }
+
     /// The kind of what a slot of the class's objects holds.
     pub fn slot_kind(&self, class: ClassId, slot: u32) -> Kind
         requires { slot < length (slots_of self.now class) }
@@ -159,6 +183,13 @@ impl Program {
     /// The public static method of that name and descriptor that the class itself declares, or
     /// `None` where it declares none.
     pub fn find_static(&self, class: ClassId, name: &Name, desc: &Name) -> Option<MethodId>
+        ensures { result ≡ static_named self.now class name.now desc.now }
+    {
+        self.find_static_text(class, name.as_bytes(), desc.as_bytes())
+    }
+
+    /// The same as `find_static`, by the bytes of the name and of the descriptor.
+    pub fn find_static_text(&self, class: ClassId, name: &[u8], desc: &[u8]) -> Option<MethodId>
         ensures { result ≡ static_named self.now class name.now desc.now }
     {
         let place = self.tables.static_named(class, name, desc)?;

@@ -22,13 +22,13 @@ use Rattle.nr_links.specs.Found.{CanCall, IsCallFound}
 use Rattle.nr_links.specs.Links.{IsDecoded, Links}
 use Rattle.nr_links.specs.Resolution.{classes_for, interface_and_above, interfaces_of, is_called_at, method_classes, resolved_method, superinterfaces}
 use Rattle.nr_links.proofs.Described.{initialiser_result, same_bytes}
-use Rattle.nr_links.proofs.Places.{found, get_either, get_flat, passing}
-use Rattle.nr_links.proofs.Selecting.{held}
-use Rattle.nr_links.proofs.Upward.{above_trans, down, has_entry, step_of, superclass_above}
+use Rattle.nr_linked.proofs.Elements.{found, get_either, get_flat, passing}
+use Rattle.nr_linked.proofs.Declaring.{held}
+use Rattle.nr_linked.proofs.Ascents.{above_trans, down, has_entry, step_of, superclass_above}
 
 -- ---- where a method is looked for stands above
 
-interface_step : (P : ProgramTables) (c k s : ℕ) → slice_get (interfaces_of P c) k ≡ Some s → IsDirectlyAbove P c s
+pub interface_step : (P : ProgramTables) (c k s : ℕ) → slice_get (interfaces_of P c) k ≡ Some s → IsDirectlyAbove P c s
 interface_step P c k s at = of_option (class_at P c) refl at
   where
     of_option : (o : Option ClassInfo) → class_at P c ≡ o → slice_get (option_map_or (λ (e : ClassInfo). e.interfaces) o []) k ≡ Some s → IsDirectlyAbove P c s
@@ -76,7 +76,7 @@ pub record Resolves (P : ProgramTables) (c m : ℕ) (name : List ℕ) (callee : 
   pub named : callee.name ≡ name
   pub alone : IsTrue (bytes_eq name (codes "<init>")) → callee.«class» ≡ c
 
-resolves : (P : ProgramTables) → Linked P → (c m : ℕ) (name desc : List ℕ) (callee : MethodInfo) → resolved_method P c name desc ≡ Some m → method_at P m ≡ Some callee → Resolves P c m name callee
+pub resolves : (P : ProgramTables) → Linked P → (c m : ℕ) (name desc : List ℕ) (callee : MethodInfo) → resolved_method P c name desc ≡ Some m → method_at P m ≡ Some callee → Resolves P c m name callee
 resolves P linked c m name desc callee res is =
     let f = found (is_called_at P name desc) (flat_map (methods_of P) (classes_for P c name)) m res in
     let r = get_flat (methods_of P) (classes_for P c name) f.1.0 m f.1.1 in

@@ -31,11 +31,12 @@ use Rattle.nr_linked.specs.Linked.{first_built_in, is_loaded}
 use Rattle.nr_linked.specs.Programs.{method_at}
 use Rattle.nr_linked.specs.TypingFacts.{BuiltInFacts}
 use Rattle.nr_links.specs.Links.{IsDecoded, Links}
-use Rattle.nr_links.proofs.BuiltInEntries.{listed, on_all}
+use Rattle.nr_linked.proofs.BuiltInEntries.{not_loaded}
+use Rattle.nr_linked.proofs.BuiltInLaws.{built_in_method_facts, built_in_result}
 use Rattle.nr_links.proofs.Descriptors.{one_list, one_method_desc, one_option}
 use Rattle.nr_links.proofs.MethodEntries.{LoadedMethod, method_cases}
-use Rattle.nr_links.proofs.Places.{passes_at, some_of}
-use Rattle.nr_links.proofs.SlotFacts.{below_loaded, not_loaded}
+use Rattle.nr_linked.proofs.Elements.{passes_at, some_of}
+use Rattle.nr_links.proofs.SlotFacts.{below_loaded}
 
 pub same_bytes : (a b : List ℕ) → IsTrue (bytes_eq a b) → a ≡ b
 same_bytes a b p = (bytes_eq-Decides a b).0 p
@@ -83,58 +84,6 @@ recursion_at : {X : Type 0} (Q : X → Type 0) (xs : List X) (k : ℕ) (x : X) �
 recursion_at Q [] k x all at = absurd cc
 recursion_at Q (y ∷ xs) zero x all at = subst Q (same_Some y x at) all.0
 recursion_at Q (y ∷ xs) (suc k) x all at = recursion_at Q xs k x all.1 at
-
--- ---- methods of the built-in classes
-
-built_in_result : (c : ℕ) (m : BuiltInMethod) → (built_in_method c m).result ≡ None
-unfolding built_in_method
-built_in_result c m = refl
-
-abbrev is_empty : List Kind → Bool
-is_empty [] = true
-is_empty (k ∷ ks) = false
-
-empty_is : (ks : List Kind) → is_empty ks ≡ true → ks ≡ []
-empty_is [] e = refl
-empty_is (k ∷ ks) e = absurd cc
-
-abbrev is_bare : BuiltInMethod → Bool
-is_bare m = not (bytes_eq m.name (codes "<init>")) || is_empty m.params
-
-bare_initialisers : IsTrue (list_all (λ b. list_all is_bare (built_in_class b).methods) built_ins)
-unfolding built_in_class
-bare_initialisers = refl
-
-no_params : (m : BuiltInMethod) → IsTrue (is_bare m) → IsTrue (bytes_eq m.name (codes "<init>")) → m.params ≡ []
-no_params m p init = elim (or_cases (not (bytes_eq m.name (codes "<init>"))) (is_empty m.params) p) [
-  | inl q ↦ absurd (both_ways (bytes_eq m.name (codes "<init>")) (not-true (bytes_eq m.name (codes "<init>")) q) init)
-  | inr q ↦ empty_is m.params q
-]
-
-static_out : IsTrue (list_all (λ (m : BuiltInMethod). is_static m.flags) (built_in_class Out).methods)
-unfolding built_in_class
-static_out = refl
-
-one_number : (a b : BuiltIn) → number a ≡ number b → a ≡ b
-one_number a b e = same_Some a b (sym (listed a) ∙ ap (slice_get built_ins) e ∙ listed b)
-
-out_holder : (P : ProgramTables) (b : BuiltIn) → first_built_in P + number b ≡ built_in P Out → b ≡ Out
-out_holder P b e = one_number b Out (omega (arith, e))
-
-built_in_method_facts : (P : ProgramTables) (b : BuiltIn) (m : BuiltInMethod) (k : ℕ) → slice_get (built_in_class b).methods k ≡ Some m → BuiltInFacts P (built_in_method (first_built_in P + number b) m)
-unfolding built_in_method
-built_in_method_facts P b m k at = record {
-  out = λ e. let there = subst (λ b. slice_get (built_in_class b).methods k ≡ Some m) (out_holder P b e) at in (
-    passes_at (λ (m : BuiltInMethod). is_static m.flags) (built_in_class Out).methods k m static_out there,
-    refl,
-    m,
-    (k, slice_get_within (built_in_class Out).methods k m there, get_or_from_slice_get (built_in_class Out).methods k m m there),
-    refl,
-    refl,
-    refl,
-  );
-  initialiser = λ init. no_params m (passes_at is_bare (built_in_class b).methods k m (on_all (λ b. list_all is_bare (built_in_class b).methods) bare_initialisers b) at) init;
-}
 
 -- ---- code
 

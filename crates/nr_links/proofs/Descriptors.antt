@@ -22,7 +22,7 @@ use Rattle.nr_linked.specs.Kinds.{class_in}
 use Rattle.nr_linked.specs.KindTexts.{base_desc, class_name, kind_desc}
 use Rattle.nr_linked.specs.Linked.{Linked, is_class_in, is_kind_in, is_kind_in_or_none}
 use Rattle.nr_linked.specs.Programs.{class_at, class_named}
-use Rattle.nr_links.proofs.Places.{get_below}
+use Rattle.nr_linked.proofs.Elements.{get_below}
 
 -- ---- texts
 

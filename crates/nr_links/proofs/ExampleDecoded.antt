@@ -1,6 +1,8 @@
 -- The example's classes have the form of class files, and their bodies are those that their code spells.
-use Rattle.std.proofs.Common.{◌≡◌, ℕ, zero, suc, ◌≤◌, List, [], ◌∷◌, length, refl, inl, inr, lit<, lit≤, arith}
-use Rattle.std.specs.Prelude.{Some, None, All, AllPairs, IsTrue, slice_index_or, codes}
+use Rattle.std.proofs.Common.{◌≡◌, ℕ, zero, suc, ◌<◌, ◌≤◌, ◌^◌, List, [], ◌∷◌, length, refl, inl, inr, lit<, lit≤, arith}
+use Rattle.std.specs.Prelude.{Some, None, All, AllPairs, IsTrue, nat_le, slice_index_or, codes}
+use Rattle.std.specs.List.{list_all}
+use Rattle.std.proofs.lemmas.Bool.{and_parts, leb-true}
 use Rattle.std.proofs.lemmas.List.Elements.{All-from_recursion, All-nil}
 use Rattle.nr_base.specs.declared.desc.types.Desc.{Desc}
 use Rattle.nr_base.specs.declared.desc.types.DescBase.TheVariants as desc_bases
@@ -16,14 +18,15 @@ use Rattle.nr_prog.specs.BodyMaps.{IsEntry, IsMapped, at_entry, frame, frame_typ
 use Rattle.nr_prog.specs.BodyNames.{class_text_at, desc_text_at}
 use Rattle.nr_prog.specs.BodyStarts.{is_start}
 use Rattle.nr_prog.specs.BodyText.{HasTargets, IsBody, IsHandler, IsInstr}
-use Rattle.nr_prog.specs.Form.{AreApart, IsFieldFormed, IsFormed, IsInitialiser, IsMethodFormed, Spells}
+use Rattle.nr_prog.specs.Form.{AreApart, IsFieldFormed, IsFormed, IsInitialiser, IsMethodFormed, IsWithinBounds, Spells, handler_count}
 use Rattle.nr_prog.specs.Legal.{IsClassText, IsMethodText}
 use Rattle.nr_prog.specs.Members.{has_its_code, is_constant_formed, is_plain, spells}
-use Rattle.nr_prog.specs.Pool.{entry_at, is_entry_formed, text_at}
+use Rattle.nr_prog.specs.Pool.{entry_at, is_entry_formed, text_at, text_len}
+use Rattle.nr_linked.proofs.LegalTexts.{legal}
 use Rattle.nr_links.specs.Example.{code_of, main_code, a_loaded, a_methods, a_parts, a_pool, aload_0, dup, face_loaded, face_method, face_parts, getfield, handler, init_body, instr, invokeinterface, invokespecial, ireturn, loaded, m_body, main_body, new_, pop, return_, iconst_0}
 use Rattle.nr_links.specs.Links.{IsDecoded}
-use Rattle.nr_links.proofs.ExampleLinks.{all_of_one, int_desc, is_int_desc, is_void_desc, legal, legal_a, legal_face, legal_object, legal_throwable}
-use Rattle.nr_links.proofs.Listed.{AtEach, at_place}
+use Rattle.nr_links.proofs.ExampleLinks.{all_of_one, int_desc, is_int_desc, is_void_desc, legal_a, legal_face, legal_object, legal_throwable}
+use Rattle.nr_linked.proofs.Listed.{AtEach, at_place}
 
 -- ---- the constant pools
 
@@ -49,16 +52,16 @@ method_text : (text : List ℕ) → IsClassText text → IsTrue (Rattle.nr_base.
 method_text text c p = (c.0, p)
 
 legal_init : IsClassText (codes "<init>")
-legal_init = legal (codes "<init>") refl refl refl
+legal_init = legal (codes "<init>") refl refl
 
 legal_m : IsClassText (codes "m")
-legal_m = legal (codes "m") refl refl refl
+legal_m = legal (codes "m") refl refl
 
 legal_main : IsClassText (codes "main")
-legal_main = legal (codes "main") refl refl refl
+legal_main = legal (codes "main") refl refl
 
 legal_v : IsClassText (codes "v")
-legal_v = legal (codes "v") refl refl refl
+legal_v = legal (codes "v") refl refl
 
 field_formed : IsFieldFormed a_pool (record { flags = 0; name = 7; desc = 8; constant = 0 })
 unfolding text_at is_constant_formed
@@ -289,11 +292,36 @@ main_is = record {
 
 -- ---- the classes
 
+-- a test of each element
+by_test : {X : Type 0} (f : X → ℕ) (n : ℕ) (xs : List X) → IsTrue (list_all (λ x. nat_le (f x) n) xs) → All (λ x. f x ≤ n) xs
+by_test f n [] p i d l = absurd (omega arith)
+by_test f n (x ∷ xs) p zero d l = leb-true (f x) n (and_parts (nat_le (f x) n) (list_all (λ x. nat_le (f x) n) xs) p).0
+by_test f n (x ∷ xs) p (suc i) d l = by_test f n xs (and_parts (nat_le (f x) n) (list_all (λ x. nat_le (f x) n) xs) p).1 i d (omega arith)
+
+short_texts : (pool : List PoolEntry) → All (λ e. text_len e ≤ 65535) pool → All (λ e. text_len e < 2 ^ 16) pool
+short_texts pool all i d l = let few = all i d l in omega (arith, few)
+
+a_bounds : IsWithinBounds a_parts
+a_bounds = record {
+  pool = lit< tt;
+  texts = short_texts a_pool (by_test text_len 65535 a_pool refl);
+  methods = lit≤ tt;
+  handlers = by_test (λ (m : Method). handler_count m.code) 65536 a_methods refl;
+}
+
+face_bounds : IsWithinBounds face_parts
+face_bounds = record {
+  pool = lit< tt;
+  texts = short_texts face_parts.pool (by_test text_len 65535 face_parts.pool refl);
+  methods = lit≤ tt;
+  handlers = by_test (λ (m : Method). handler_count m.code) 65536 face_parts.methods refl;
+}
+
 decoded_a : IsDecoded a_loaded
-decoded_a = record { formed = a_formed; bodies = ((init_body, refl, init_is), ((m_body, refl, m_is), ((main_body, refl, main_is), tt))) }
+decoded_a = record { formed = a_formed; bounds = a_bounds; bodies = ((init_body, refl, init_is), ((m_body, refl, m_is), ((main_body, refl, main_is), tt))) }
 
 decoded_face : IsDecoded face_loaded
-decoded_face = record { formed = face_formed; bodies = (refl, tt) }
+decoded_face = record { formed = face_formed; bounds = face_bounds; bodies = (refl, tt) }
 
 pub decoded : All IsDecoded loaded
 unfolding loaded

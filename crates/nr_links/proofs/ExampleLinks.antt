@@ -30,6 +30,7 @@ use Rattle.nr_linked.specs.Kinds.{class_kind}
 use Rattle.nr_linked.specs.KindTexts.{kind_desc}
 use Rattle.nr_linked.specs.Programs.{class_at, method_at}
 use Rattle.nr_linked.specs.Subtypes.{Above, IsDirectlyAbove, is_above, itself}
+use Rattle.nr_linked.proofs.LegalTexts.{legal}
 use Rattle.nr_links.specs.Example.{face_method, a_info, a_init, a_loaded, a_m, a_main, a_methods, a_parts, a_pool, face_info, face_loaded, face_m, face_parts, init_body, int_kind, loaded, m_body, main_body, main_map, slot, tables}
 use Rattle.nr_links.specs.Entries.{IsClassAs, IsFrameOf, IsMethodAs}
 use Rattle.nr_links.specs.Found.{IsCallFound, IsMadeFound, IsSlotFound}
@@ -37,32 +38,22 @@ use Rattle.nr_links.specs.Links.{Links}
 use Rattle.nr_links.specs.Named.{NamesKind}
 use Rattle.nr_links.specs.Rules.{KeepsRules, SaysKind, is_final}
 use Rattle.nr_links.proofs.ExampleTables.{linked, supers}
-use Rattle.nr_links.proofs.Listed.{AtEach, at_place, listed_all}
+use Rattle.nr_linked.proofs.Listed.{AtEach, at_place, listed_all}
 use Rattle.nr_links.proofs.Reaching.{direct_step, steps_up}
 
 -- ---- names
 
-are_units : (text : List ℕ) → IsTrue (list_all (λ b. nat_lt 0 b && nat_lt b 65536) text) → AllByRecursion IsUnit text
-are_units [] p = tt
-are_units (b ∷ text) p =
-    let both = and_parts (nat_lt 0 b && nat_lt b 65536) (list_all (λ b. nat_lt 0 b && nat_lt b 65536) text) p in
-    let one = and_parts (nat_lt 0 b) (nat_lt b 65536) both.0 in
-    ((ltb-true 0 b one.0, ltb-true b 65536 one.1), are_units text both.1)
-
-pub legal : (text : List ℕ) → IsTrue (list_all (λ b. nat_lt 0 b && nat_lt b 65536) text) → text ≡ flat_map unit_bytes text → class_from false text ≡ true → IsClassText text
-legal text units spelled name = (record { units = text; each = are_units text units; spelled = spelled }, class_found text name)
-
 pub legal_a : IsClassText (codes "A")
-legal_a = legal (codes "A") refl refl refl
+legal_a = legal (codes "A") refl refl
 
 pub legal_face : IsClassText (codes "Face")
-legal_face = legal (codes "Face") refl refl refl
+legal_face = legal (codes "Face") refl refl
 
 pub legal_object : IsClassText (codes "java/lang/Object")
-legal_object = legal (codes "java/lang/Object") refl refl refl
+legal_object = legal (codes "java/lang/Object") refl refl
 
 pub legal_throwable : IsClassText (codes "java/lang/Throwable")
-legal_throwable = legal (codes "java/lang/Throwable") refl refl refl
+legal_throwable = legal (codes "java/lang/Throwable") refl refl
 
 names_a : NamesKind tables a_pool 2 (class_kind 0)
 unfolding tables class_text_at text_at built_in_infos

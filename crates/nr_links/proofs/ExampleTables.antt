@@ -16,7 +16,7 @@ use Rattle.nr_linked.specs.Linked.{IsClassLinked, IsMethodLinked, IsReadAs, Link
 use Rattle.nr_linked.specs.Programs.{class_named, is_interface, methods_of, superclasses}
 use Rattle.nr_linked.specs.Subtypes.{Above, is_above}
 use Rattle.nr_links.specs.Example.{a_info, a_parts, face_info, face_parts, tables}
-use Rattle.nr_links.proofs.Listed.{AtEach, all_below, at_place}
+use Rattle.nr_linked.proofs.Listed.{AtEach, all_below, at_place}
 use Rattle.nr_links.proofs.Reaching.{is_closed_at, is_reached_at, supers_by_check}
 
 -- ---- what stands above each class

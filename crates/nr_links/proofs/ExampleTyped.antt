@@ -23,7 +23,7 @@ use Rattle.nr_linked.specs.TypingFrames.{TypeFrame, frame_fits}
 use Rattle.nr_linked.specs.TypingRules.{type_op}
 use Rattle.nr_linked.specs.WellTyped.{targets_of, falls_through, map_at, mapped_frame, frame_among, frame_at, Onward, catchers, HandlerFits, SiteTyped, MethodTyped, WellTyped}
 use Rattle.nr_links.specs.Example.{a_init, a_m, a_main, handler, tables}
-use Rattle.nr_links.proofs.Listed.{AtEach, at_place}
+use Rattle.nr_linked.proofs.Listed.{AtEach, at_place}
 
 -- ---- the frames
 

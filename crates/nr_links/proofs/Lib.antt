@@ -1,8 +1,4 @@
-pub mod Listed
-pub mod Places
 pub mod Reaching
-pub mod Upward
-pub mod BuiltInEntries
 pub mod SlotFacts
 pub mod Descriptors
 pub mod MethodEntries
@@ -11,6 +7,9 @@ pub mod Selecting
 pub mod Calling
 pub mod Instructions
 pub mod SiteFacts
+pub mod LaidOut
+pub mod Suits
+pub mod Bounds
 pub mod Facts
 pub mod OneNames
 pub mod OneClass

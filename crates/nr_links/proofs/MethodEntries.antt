@@ -20,8 +20,8 @@ use Rattle.nr_linked.specs.Linked.{Texts, is_method_of, method_texts, read_texts
 use Rattle.nr_linked.specs.Programs.{class_at, method_at, methods_of}
 use Rattle.nr_links.specs.Entries.{IsMethodAs, method_count}
 use Rattle.nr_links.specs.Links.{IsDecoded, Links}
-use Rattle.nr_links.proofs.BuiltInEntries.{BuiltInEntry, of_built_in_method}
-use Rattle.nr_links.proofs.Places.{get_below, get_flat, get_mapped, get_range, passes_at}
+use Rattle.nr_linked.proofs.BuiltInEntries.{BuiltInEntry, of_built_in_method}
+use Rattle.nr_linked.proofs.Elements.{get_below, get_flat, get_mapped, get_range, passes_at}
 use Rattle.nr_links.proofs.SlotFacts.{below_loaded, loaded_entry}
 
 -- ---- one of a class file
@@ -43,7 +43,7 @@ pub record LoadedMethod (classes : List Loaded) (P : ProgramTables) (n : ℕ) (i
   pub body_for : BodyFor l.«class» m m.code decoded
   pub said : IsMethodAs P own l.«class».pool m decoded i
 
-all_at : {X : Type 0} (Q : X → Type 0) (xs : List X) (k : ℕ) (x : X) → All Q xs → slice_get xs k ≡ Some x → Q x
+pub all_at : {X : Type 0} (Q : X → Type 0) (xs : List X) (k : ℕ) (x : X) → All Q xs → slice_get xs k ≡ Some x → Q x
 all_at Q xs k x all at = subst Q (get_or_from_slice_get xs k x x at) (all k x (slice_get_within xs k x at))
 
 body_at : (c : ClassParts) (ms : List Method) (bs : List (Option Body)) (k : ℕ) (m : Method) → EachBody c ms bs → slice_get ms k ≡ Some m → (b : Option Body) × (slice_get bs k ≡ Some b) × BodyFor c m m.code b

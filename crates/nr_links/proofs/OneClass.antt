@@ -24,11 +24,12 @@ use Rattle.nr_linked.specs.Subtypes.{Above, IsDirectlyAbove, further, itself}
 use Rattle.nr_links.specs.Entries.{is_rising}
 use Rattle.nr_links.specs.Links.{Links}
 use Rattle.nr_links.proofs.Descriptors.{one_class, one_desc, one_kind}
-use Rattle.nr_links.proofs.Listed.{is_listed, listed_all}
+use Rattle.nr_linked.proofs.Listed.{is_listed, listed_all}
 use Rattle.nr_links.proofs.OneNames.{class_back, kind_back, same_descs, same_names, same_past_classes, there, twins}
-use Rattle.nr_links.proofs.Places.{get_below, get_dropped, passes_at, passing, some_of}
-use Rattle.nr_links.proofs.SlotFacts.{not_loaded, super_in}
-use Rattle.nr_links.proofs.Upward.{down, step_of, up}
+use Rattle.nr_linked.proofs.Elements.{get_below, get_dropped, passes_at, passing, some_of}
+use Rattle.nr_linked.proofs.AnyReferences.{super_in}
+use Rattle.nr_linked.proofs.BuiltInEntries.{not_loaded}
+use Rattle.nr_linked.proofs.Ascents.{down, step_of, up}
 
 -- ---- rising lists
 
@@ -132,7 +133,7 @@ module _ (classes : List Loaded) (P Q : ProgramTables) (L : Links classes P) (M 
   one_super c (Some s) (Some t) a b e =
       ap (λ s. Some s) (one_class P L.linked s t (and_parts (is_class_in P s) _ a).0 (class_back classes P Q L M t (and_parts (is_class_in Q t) _ b).0) (same_Some (class_name P s) (class_name P t) e))
 
-  face_in : (R : ProgramTables) (c : ℕ) → IsTrue (is_interface R c) → IsTrue (is_class_in R c)
+  pub face_in : (R : ProgramTables) (c : ℕ) → IsTrue (is_interface R c) → IsTrue (is_class_in R c)
   face_in R c p = let r = passing (λ (e : ClassInfo). Rattle.nr_prog.specs.Members.has_flag 0x0200 e.flags) (class_at R c) p in lt-ltb c (length R.classes) (slice_get_within R.classes c r.0 r.1)
 
   one_interfaces : (is js : List ℕ) → IsTrue (list_all (is_interface P) is) → IsTrue (list_all (is_interface Q) js) → map (λ c. Some (class_name P c)) is ≡ map (λ c. Some (class_name P c)) js → is ≡ js

@@ -34,7 +34,7 @@ use Rattle.nr_links.specs.Resolution.{class_with_members, classes_for, is_called
 use Rattle.nr_links.proofs.Descriptors.{one_desc, one_kind}
 use Rattle.nr_links.proofs.MethodEntries.{method_from, stand}
 use Rattle.nr_links.proofs.OneNames.{same_functions, same_past_methods}
-use Rattle.nr_links.proofs.Places.{get_below, some_of}
+use Rattle.nr_linked.proofs.Elements.{get_below, some_of}
 use Rattle.nr_links.proofs.SiteFacts.{array_name}
 
 abbrev pub with_methods : List ClassInfo → List MethodInfo → ProgramTables

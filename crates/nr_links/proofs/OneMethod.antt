@@ -31,7 +31,7 @@ use Rattle.nr_links.proofs.MethodEntries.{method_from, stand}
 use Rattle.nr_links.proofs.OneFound.{one_caught, one_found, with_methods}
 use Rattle.nr_links.proofs.OneNames.{same_list, same_options, same_past_methods}
 use Rattle.nr_links.proofs.OneTable.{one_table}
-use Rattle.nr_links.proofs.Places.{get_below}
+use Rattle.nr_linked.proofs.Elements.{get_below}
 
 -- ---- lists place by place
 

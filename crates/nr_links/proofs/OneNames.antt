@@ -18,7 +18,7 @@ use Rattle.nr_linked.specs.Kinds.{class_in}
 use Rattle.nr_linked.specs.Programs.{class_at, method_at}
 use Rattle.nr_links.specs.Links.{Links}
 use Rattle.nr_links.proofs.Descriptors.{name_of}
-use Rattle.nr_links.proofs.Places.{get_below, get_dropped}
+use Rattle.nr_linked.proofs.Elements.{get_below, get_dropped}
 use Rattle.nr_links.proofs.SlotFacts.{loaded_entry}
 
 -- ---- lists

@@ -8,7 +8,7 @@ use Rattle.nr_linked.specs.declared.program.tables.ClassInfo.{ClassInfo}
 use Rattle.nr_linked.specs.declared.program.tables.ProgramTables.{ProgramTables}
 use Rattle.nr_linked.specs.Programs.{class_at}
 use Rattle.nr_linked.specs.Subtypes.{Above, IsDirectlyAbove, further, is_above, itself}
-use Rattle.nr_links.proofs.Listed.{all_below, at_below, contains_listed, is_listed, listed_all, listed_append, listed_contains}
+use Rattle.nr_linked.proofs.Listed.{all_below, at_below, contains_listed, is_listed, listed_all, listed_append, listed_contains}
 
 -- ---- the steps up from a class
 

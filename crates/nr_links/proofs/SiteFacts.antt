@@ -41,8 +41,8 @@ use Rattle.nr_links.specs.Found.{IsCallFound, IsConstantFound, IsFound, IsFoundA
 use Rattle.nr_links.specs.Named.{NamesKind}
 use Rattle.nr_links.proofs.Descriptors.{one_desc}
 use Rattle.nr_links.proofs.Instructions.{HasText, is_pool_shape, constant_row, counts, dims_shape, is_one_constant, mul_row, row_listed, shaped, uses}
-use Rattle.nr_links.proofs.Places.{get_below, some_of}
-use Rattle.nr_links.proofs.Upward.{itself_above}
+use Rattle.nr_linked.proofs.Elements.{get_below, some_of}
+use Rattle.nr_linked.proofs.Ascents.{itself_above}
 
 -- ---- a kind of the program goes where it is wanted itself
 

@@ -1,4 +1,4 @@
--- What stands above a class whose references go anywhere, and the slots of classes, in the tables that classes link to.
+-- The slots of classes, in the tables that classes link to.
 use Rattle.std.proofs.Common.{◌≡◌, ℕ, zero, suc, ◌<◌, ◌⊎◌, inl, inr, Bool, true, false, List, [], ◌∷◌, ◌++◌, length, map, refl, sym, ap, subst, ◌∙◌, arith, not, cond, ◌||◌}
 use Rattle.std.specs.Prelude.{Option, Some, None, IfSome, IsTrue, Contains, slice_get, ◌==◌, is_none}
 use Rattle.std.specs.List.{filter, list_all, list_any}
@@ -20,10 +20,12 @@ use Rattle.nr_linked.specs.Programs.{class_at, is_interface, super_of, upward}
 use Rattle.nr_linked.specs.Slots.{slots_of}
 use Rattle.nr_linked.specs.Subtypes.{Above, IsDirectlyAbove, admits_any, further, is_above, itself}
 use Rattle.nr_links.specs.Links.{Links}
-use Rattle.nr_links.proofs.BuiltInEntries.{built_in_at, info_of, of_built_in}
-use Rattle.nr_links.proofs.Listed.{listed_all, listed_contains}
-use Rattle.nr_links.proofs.Places.{get_below, get_either, get_left, passes_at, some_of}
-use Rattle.nr_links.proofs.Upward.{down, super_step, up}
+use Rattle.nr_linked.proofs.AnyReferences.{is_face, super_in, super_of_interface}
+use Rattle.nr_linked.proofs.BuiltInEntries.{info_of, not_loaded, of_built_in}
+use Rattle.nr_linked.proofs.BuiltInLaws.{built_in_slots, no_built_in_slots}
+use Rattle.nr_linked.proofs.Listed.{listed_all, listed_contains}
+use Rattle.nr_linked.proofs.Elements.{get_below, get_either, get_left, passes_at, some_of}
+use Rattle.nr_linked.proofs.Ascents.{down, super_step, up}
 
 -- ---- classes that were loaded
 
@@ -58,72 +60,6 @@ module _ (classes : List Loaded) (P : ProgramTables) (links : Links classes P) w
     | inr p ↦ inr (of_built_in P links.linked c e is p)
   ]
 
-pub not_loaded : (P : ProgramTables) (b : BuiltIn) → is_loaded P (built_in P b) ≡ false
-not_loaded P b = le-ltb (built_in P b) (first_built_in P) (omega arith)
-
--- ---- classes to which any reference goes
-
--- the superclass of a class that isn't java/lang/Object
-pub super_in : (P : ProgramTables) → Linked P → (c : ℕ) (e : ClassInfo) → class_at P c ≡ Some e → (c == built_in P Object) ≡ false → (s : ℕ) × (e.super_class ≡ Some s) × IsTrue (is_super_in P c s)
-super_in P linked c e is apart = of_option e.super_class refl ((linked.classes c e is).root ∙ apart) (linked.classes c e is).super_class
-  where
-    of_option : (o : Option ℕ) → e.super_class ≡ o → is_none o ≡ false → IsTrue (option_map_or (is_super_in P c) o true) → (s : ℕ) × (e.super_class ≡ Some s) × IsTrue (is_super_in P c s)
-    of_option None e none p = absurd cc
-    of_option (Some s) e none p = (s, e, p)
-
--- the superclass of an interface is java/lang/Object
-super_of_interface : (P : ProgramTables) (c s : ℕ) → IsTrue (is_super_in P c s) → IsTrue (is_interface P c) → s ≡ built_in P Object
-super_of_interface P c s p face =
-    let a = and_parts (is_class_in P s) _ p in
-    let b = and_parts (not (is_interface P s)) _ a.1 in
-    elim (or_cases (not (is_interface P c)) (s == built_in P Object) b.1) [
-      | inl q ↦ absurd (both_ways (is_interface P c) (of_not (is_interface P c) q) face)
-      | inr q ↦ eqb-true s (built_in P Object) q
-    ]
-  where
-    of_not : (b : Bool) → not b ≡ true → b ≡ false
-    of_not true e = cc
-    of_not false e = refl
-
-object_entry : (P : ProgramTables) → Linked P → (e : ClassInfo) → class_at P (built_in P Object) ≡ Some e → e ≡ info_of P Object
-object_entry P linked e is = same_Some e (info_of P Object) (sym is ∙ built_in_at P linked Object)
-
-none_direct : (s : ℕ) → ◌⊎◌ (◌≡◌ {A = Option ℕ} None (Some s)) (Contains [] s) → ⊥
-none_direct s (inl q) = cc
-none_direct s (inr q) = omega (arith, q.1)
-
-nothing_above : (P : ProgramTables) → Linked P → (s : ℕ) → IsDirectlyAbove P (built_in P Object) s → ⊥
-unfolding built_in_info built_in_class
-nothing_above P linked s step =
-    let r = some_of (λ (e : ClassInfo). (e.super_class ≡ Some s) ⊎ Contains e.interfaces s) (class_at P (built_in P Object)) step in
-    none_direct s (subst (λ (e : ClassInfo). (e.super_class ≡ Some s) ⊎ Contains e.interfaces s) (object_entry P linked r.0 r.1) r.2)
-
-is_face : (P : ProgramTables) (c : ℕ) → (c == built_in P Object) ≡ false → IsTrue (admits_any P c) → IsTrue (is_interface P c)
-is_face P c apart any = elim (or_cases (c == built_in P Object) (is_interface P c) any) [
-  | inl q ↦ absurd (both_ways (c == built_in P Object) apart q)
-  | inr q ↦ q
-]
-
-above_face : (P : ProgramTables) → Linked P → (c s : ℕ) (e : ClassInfo) → class_at P c ≡ Some e → (c == built_in P Object) ≡ false → IsTrue (is_interface P c)
-    → (e.super_class ≡ Some s) ⊎ Contains e.interfaces s → IsTrue (admits_any P s)
-above_face P linked c s e is apart face (inl q) =
-    let r = super_in P linked c e is apart in
-    let same : r.0 ≡ s = same_Some r.0 s (sym r.1 ∙ q) in
-    or_left (s == built_in P Object) (is_interface P s) (eq-eqb s (built_in P Object) (sym same ∙ super_of_interface P c r.0 r.2 face))
-above_face P linked c s e is apart face (inr q) =
-    or_right (s == built_in P Object) (is_interface P s) (listed_all (is_interface P) s e.interfaces (listed_contains s e.interfaces q) (linked.classes c e is).interfaces)
-
--- above such a class or interface only such stand
-any_step : (P : ProgramTables) → Linked P → (c s : ℕ) → IsTrue (admits_any P c) → IsDirectlyAbove P c s → IsTrue (admits_any P s)
-any_step P linked c s any step = elim (cases_Bool (c == built_in P Object)) [
-  | inl p ↦ absurd (nothing_above P linked s (subst (λ c. IsDirectlyAbove P c s) (eqb-true c (built_in P Object) p) step))
-  | inr p ↦ let r = some_of (λ (e : ClassInfo). (e.super_class ≡ Some s) ⊎ Contains e.interfaces s) (class_at P c) step in above_face P linked c s r.0 r.1 p (is_face P c p any) r.2
-]
-
-pub any_up : (P : ProgramTables) → Linked P → (c d : ℕ) → IsTrue (admits_any P c) → Above P c d → IsTrue (admits_any P d)
-any_up P linked c d any itself = any
-any_up P linked c d any (further {s = s} step rest) = any_up P linked s d (any_step P linked c s any step) rest
-
 -- ---- slots of such classes
 
 filter_none : {X : Type 0} (f : X → Bool) (xs : List X) → IsTrue (list_all f xs) → filter (λ x. not (f x)) xs ≡ []
@@ -138,15 +74,6 @@ map_none : {X Y : Type 0} (f : X → Y) (xs : List X) → map f xs ≡ [] → xs
 map_none f [] e = refl
 map_none f (x ∷ xs) e = absurd cc
 
-built_in_slots : (f m : ℕ) (b : BuiltIn) → (built_in_info f m b).slots ≡ []
-unfolding built_in_info
-built_in_slots f m b = refl
-
-object_slots : (P : ProgramTables) → Linked P → slots_of P (built_in P Object) ≡ []
-object_slots P linked =
-    ap (λ o. option_map_or (λ (e : ClassInfo). e.slots) o []) (built_in_at P linked Object)
-    ∙ built_in_slots (first_built_in P) _ Object
-
 module _ (classes : List Loaded) (P : ProgramTables) (links : Links classes P) where
   loaded_no_slots : (c : ℕ) (e : ClassInfo) → class_at P c ≡ Some e → LoadedEntry classes P c e → IsTrue (admits_any P c) → e.slots ≡ []
   loaded_no_slots c e is r any =
@@ -155,7 +82,7 @@ module _ (classes : List Loaded) (P : ProgramTables) (links : Links classes P) w
       let face = is_face P c apart any in
       let s = super_in P links.linked c e is apart in
       let top = super_of_interface P c s.0 s.2 face in
-      let inherited : inherited_slots P e ≡ [] = ap (λ o. option_map_or (slots_of P) o []) s.1 ∙ ap (slots_of P) top ∙ object_slots P links.linked in
+      let inherited : inherited_slots P e ≡ [] = ap (λ o. option_map_or (slots_of P) o []) s.1 ∙ ap (slots_of P) top ∙ no_built_in_slots P links.linked (built_in P Object) (not_loaded P Object) in
       let members = (links.rules c r.l e r.at is).interface_members face in
       let statics = (and_parts (list_all (λ (f : Field). is_static f.flags) r.l.«class».fields) _ members).0 in
       let own : own_slots P e ≡ [] = map_none slot_texts (own_slots P e) (r.read_as.fields ∙ ap (map (field_texts r.l.«class».pool)) (filter_none (λ (f : Field). is_static f.flags) r.l.«class».fields statics)) in
@@ -205,14 +132,25 @@ module _ (classes : List Loaded) (P : ProgramTables) (links : Links classes P) w
 
   -- ---- a class has a slot from the class that declares its field on
 
+  -- a slot among those of the class's own fields
+  pub record OwnSlot (x : SlotInfo) : Type 0 where
+    pub entry : ClassInfo
+    pub is_entry : class_at P x.declared_in ≡ Some entry
+    pub place : ℕ
+    pub own : slice_get (own_slots P entry) place ≡ Some x
+
   Declared : ℕ → ℕ → SlotInfo → Type 0
-  Declared c i x = Above P c x.declared_in × (slice_get (slots_of P x.declared_in) i ≡ Some x)
+  Declared c i x = Above P c x.declared_in × (slice_get (slots_of P x.declared_in) i ≡ Some x) × OwnSlot x
 
   own_declared : (c i j : ℕ) (e : ClassInfo) (x : SlotInfo) → class_at P c ≡ Some e → slice_get (own_slots P e) j ≡ Some x → slice_get (slots_of P c) i ≡ Some x → Declared c i x
   unfolding Declared
   own_declared c i j e x is own at =
       let same = eqb-true x.declared_in c (passes_at (λ (s : SlotInfo). s.declared_in == c) (own_slots P e) j x (links.linked.classes c e is).own own) in
-      (subst (λ d. Above P c d) (sym same) itself, subst (λ d. slice_get (slots_of P d) i ≡ Some x) (sym same) at)
+      (
+        subst (λ d. Above P c d) (sym same) itself,
+        subst (λ d. slice_get (slots_of P d) i ≡ Some x) (sym same) at,
+        record { entry = e; is_entry = subst (λ d. class_at P d ≡ Some e) (sym same) is; place = j; own = own },
+      )
 
   slot_entry : (c i : ℕ) (x : SlotInfo) → slice_get (slots_of P c) i ≡ Some x → (e : ClassInfo) × (class_at P c ≡ Some e)
   slot_entry c i x at = of_option (class_at P c) at
@@ -239,7 +177,7 @@ module _ (classes : List Loaded) (P : ProgramTables) (links : Links classes P) w
             let more = onward (c == built_in P Object) (λ q. no_slot c i x (or_left (c == built_in P Object) (is_interface P c) q) at) ends in
             let up_there = subst (λ o. IsTrue (list_any (λ d. d == built_in P Object) (upward P n o))) (super_of_entry c s.0 r.0 r.1 s.1) more in
             let d = declared_from n s.0 i x up_there s.2 in
-            (further (super_step P c s.0 (super_of_entry c s.0 r.0 r.1 s.1)) d.0, d.1)
+            (further (super_step P c s.0 (super_of_entry c s.0 r.0 r.1 s.1)) d.0, d.1, d.2)
         | inr h ↦ own_declared c i h.0 r.0 x r.1 h.2 at
       ]
     where
@@ -253,3 +191,10 @@ module _ (classes : List Loaded) (P : ProgramTables) (links : Links classes P) w
       let r = slot_entry c i x at in
       let d = declared_from (length P.classes) c i x (links.linked.classes c r.0 r.1).ends at in
       (down P links.linked c x.declared_in r.0 r.1 d.0, d.1)
+
+  -- so each slot stands among those of the own fields of the class that declares its field
+  pub own_slot : (c i : ℕ) (x : SlotInfo) → slice_get (slots_of P c) i ≡ Some x → OwnSlot x
+  unfolding Declared
+  own_slot c i x at =
+      let r = slot_entry c i x at in
+      (declared_from (length P.classes) c i x (links.linked.classes c r.0 r.1).ends at).2

@@ -5,7 +5,7 @@ use Rattle.nr_prog.specs.declared.body.loaded.Loaded.{Loaded}
 use Rattle.nr_linked.specs.declared.program.tables.ClassInfo.{ClassInfo}
 use Rattle.nr_linked.specs.declared.program.tables.ProgramTables.{ProgramTables}
 use Rattle.nr_prog.specs.BodyText.{HasBodies}
-use Rattle.nr_prog.specs.Form.{IsFormed}
+use Rattle.nr_prog.specs.Form.{IsFormed, IsWithinBounds}
 use Rattle.nr_linked.specs.BuiltIns.{built_in_count}
 use Rattle.nr_linked.specs.Linked.{Linked, built_in_method_count}
 use Rattle.nr_linked.specs.Programs.{class_at}
@@ -24,7 +24,8 @@ pub record Links (classes : List Loaded) (P : ProgramTables) : Type 0 where
   -- and keeps the rules of linking
   pub rules : (c : ℕ) (l : Loaded) (e : ClassInfo) → slice_get classes c ≡ Some l → class_at P c ≡ Some e → KeepsRules P c e l.«class»
 
--- a class with the form of a class file, and the code that its methods spell
+-- a class with the form and the bounds of a class file, and the code that its methods spell
 pub record IsDecoded (l : Loaded) : Type 0 where
   pub formed : IsFormed l.«class»
+  pub bounds : IsWithinBounds l.«class»
   pub bodies : HasBodies l.«class» l.bodies

@@ -5,12 +5,12 @@ use Rattle.std.specs.Option.{option_map_or, option_and_then}
 use Rattle.std.proofs.Math.Facts.{eqb_yes, yes_eqb}
 use Rattle.nr_prog.specs.declared.body.instruction.Instr.{Instr}
 use Rattle.nr_prog.specs.declared.body.whole.Body.{Body}
-use Rattle.nr_prog.specs.declared.pool.PoolEntry.{PoolEntry}
-use Rattle.nr_prog.specs.BodyText.{instrs}
+use Rattle.nr_prog.specs.Offsets.{RiseAbove, StandInOrder}
 use Rattle.nr_linked.specs.declared.program.kind.Kind.{Kind}
 use Rattle.nr_linked.specs.declared.program.tables.MethodInfo.{MethodInfo}
 use Rattle.nr_linked.specs.declared.program.tables.ProgramTables.{ProgramTables}
 use Rattle.nr_linked.specs.declared.program.tables.Resolved.{Resolved}
+use Rattle.nr_linked.specs.Layout.{CodeInOrder}
 use Rattle.nr_linked.specs.Programs.{method_at}
 use Rattle.nr_linked.specs.Sites.{Site, first_offset, site_among, site_at}
 use Rattle.nr_linked.specs.TypingFrames.{TypeFrame, entry_frame}
@@ -21,7 +21,6 @@ use Rattle.nr_linked.specs.WellTyped.{falls_through, map_at, frame_among, frame_
 use Rattle.nr_model.specs.Heaps.{Heap}
 use Rattle.nr_model.specs.States.{Frame, Control, Running, Returned, Thrown, State}
 use Rattle.nr_typed.specs.Standing.{Holds, AllWait, ControlStands, StandsIn}
-use Rattle.nr_typed.specs.Offsets.{RiseAbove, AreInOrder, CodeInOrder}
 use Rattle.nr_typed.proofs.Steps.{none_some, some_same}
 
 -- ---- what stands beside an instruction
@@ -127,7 +126,7 @@ module _ (P : ProgramTables) (m : MethodInfo) (body : Body) (is_body : m.body �
       go_on (falls_through i.row.family) at y.leaves z.leaves g (subst (λ o. Onward P m fs (falls_through i.row.family) o y.leaves) f y.onward) (subst (λ o. Onward P m gs (falls_through i.row.family) o z.leaves) f z.onward)))
 
   -- the frames, of instructions in order, one of which was found for each
-  pub one_typing : length m.resolved ≡ length body.instrs → AreInOrder body.instrs → fs ≡ gs
+  pub one_typing : length m.resolved ≡ length body.instrs → StandInOrder body.instrs → fs ≡ gs
   one_typing k ordered = walk body.instrs m.resolved fs gs k left.one_each right.one_each (rises body.instrs ordered)
       (record {
         sites = λ at s e. ap (λ o. option_and_then (λ (body : Body). site_among body.instrs m.resolved at) o) is_body ∙ e;
@@ -135,11 +134,11 @@ module _ (P : ProgramTables) (m : MethodInfo) (body : Body) (is_body : m.body �
         rights = λ at f e. ap (λ o. option_map_or (λ (body : Body). frame_among body.instrs gs at) o None) is_body ∙ e;
       }) (λ at e. let z : 0 ≡ at = first_zero body.instrs at ordered e in subst (λ at. frame_at m fs at ≡ frame_at m gs at) z (arrive 0 (entry_frame P m) (entry_frame P m) refl left.entry right.entry))
     where
-      rises : (is : List Instr) → AreInOrder is → Behind is
-      rises [] r = tt
+      rises : (is : List Instr) → StandInOrder is → Behind is
+      rises [] r = absurd r
       rises (i ∷ is) r = r.1
 
-      first_zero : (is : List Instr) (at : ℕ) → AreInOrder is → first_offset is ≡ Some at → 0 ≡ at
+      first_zero : (is : List Instr) (at : ℕ) → StandInOrder is → first_offset is ≡ Some at → 0 ≡ at
       first_zero [] at r e = absurd (none_some e)
       first_zero (i ∷ is) at r e = sym r.0 ∙ some_same e
 
@@ -189,19 +188,3 @@ module _ (P : ProgramTables) (facts : TypingFacts P) (ordered : CodeInOrder P) (
 
   pub one_standing : (result : Option Kind) (s : State) → StandsIn P first.frames result s → StandsIn P second.frames result s
   one_standing result s st = record { heap = st.heap; control = control_by result s.heap s.control st.control }
-
--- ---- what bytes spell
-
-rise_above : (pool : List PoolEntry) (n at : ℕ) (is : List Instr) (text : List ℕ) → n < at → instrs pool at is text → RiseAbove n is
-rise_above pool n at [] text l p = tt
-rise_above pool n at (i ∷ is) text l p =
-    let e : i.at ≡ at = p.2.placed in
-    let t : length p.0 ≡ length (i.row.code ∷ p.2.spelled.0) = ap length p.2.spelled.1 in
-    ((omega arith), rise_above pool i.at (at + length p.0) is p.1 (omega arith) p.3)
-
-pub spelled_in_order : (pool : List PoolEntry) (is : List Instr) (text : List ℕ) → instrs pool 0 is text → AreInOrder is
-spelled_in_order pool [] text p = tt
-spelled_in_order pool (i ∷ is) text p =
-    let e : i.at ≡ 0 = p.2.placed in
-    let t : length p.0 ≡ length (i.row.code ∷ p.2.spelled.0) = ap length p.2.spelled.1 in
-    (e, rise_above pool i.at (0 + length p.0) is p.1 (omega arith) p.3)

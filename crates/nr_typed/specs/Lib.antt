@@ -5,5 +5,4 @@ pub mod Fits
 pub mod Standing
 pub mod Usable
 pub mod TypedAnswers
-pub mod Offsets
 pub mod Example

@@ -12,25 +12,29 @@ use super::tables::{ClassInfo, MethodInfo, ProgramTables};
 use nr_base::Name;
 
 impl ProgramTables {
-    pub(super) fn class_at(&self, class: ClassId) -> Option<&ClassInfo>
+    /// The entry of a class, or `None` where the number names none.
+    pub fn class_at(&self, class: ClassId) -> Option<&ClassInfo>
         ensures { option_copied result ≡ class_at self.now class }
     {
         self.classes.as_slice().get(class as usize)
     }
 
-    pub(super) fn method_at(&self, method: MethodId) -> Option<&MethodInfo>
+    /// The entry of a method, or `None` where the number names none.
+    pub fn method_at(&self, method: MethodId) -> Option<&MethodInfo>
         ensures { option_copied result ≡ method_at self.now method }
     {
         self.methods.as_slice().get(method as usize)
     }
 
-    pub(super) fn built_in(&self, class: BuiltIn) -> usize
+    /// The number of a built-in class.
+    pub fn built_in(&self, class: BuiltIn) -> usize
         ensures { result ≡ built_in self.now class }
     {
         self.classes.len().saturating_sub(BuiltIn::COUNT) + class.number()
     }
 
-    pub(super) fn is_interface(&self, class: ClassId) -> bool
+    /// Whether the class is an interface (JVM Specification 4.1, table 4.1-A).
+    pub fn is_interface(&self, class: ClassId) -> bool
         ensures { result ≡ is_interface self.now class }
     {
         match self.class_at(class) {
@@ -39,7 +43,8 @@ impl ProgramTables {
         }
     }
 
-    pub(super) fn super_of(&self, class: ClassId) -> Option<ClassId>
+    /// The superclass; none for `java/lang/Object` and where the number names no class.
+    pub fn super_of(&self, class: ClassId) -> Option<ClassId>
         ensures { result ≡ super_of self.now class }
     {
         self.class_at(class)?.super_class

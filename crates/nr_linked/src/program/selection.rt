@@ -8,7 +8,6 @@ ghost use Rattle.nr_linked.specs.Selection.{can_select, is_called, is_selectable
 use super::flags::{PRIVATE, PUBLIC, STATIC, has_flag};
 use super::kind::{ClassId, MethodId};
 use super::tables::{MethodInfo, ProgramTables};
-use nr_base::Name;
 use std::ops::Range;
 
 impl MethodInfo {
@@ -34,8 +33,8 @@ impl MethodInfo {
 }
 
 impl ProgramTables {
-    /// The places of the methods that the class declares.
-    fn methods_of(&self, class: ClassId) -> Range<usize>
+    /// The places of the methods that the class declares, in their order.
+    pub fn methods_of(&self, class: ClassId) -> Range<usize>
         ensures { range_with_len result.start (result.end - result.start)
             ≡ methods_of self.now class }
     {
@@ -86,12 +85,10 @@ impl ProgramTables {
         None
     }
 
-    pub(super) fn static_named(&self, class: ClassId, name: &Name, desc: &Name) -> Option<usize>
+    pub(super) fn static_named(&self, class: ClassId, name: &[u8], desc: &[u8]) -> Option<usize>
         ensures named { result ≡ static_named self.now class name.now desc.now }
         ensures within { IfSome result (λ m. m < length self.now.methods) }
     {
-        let name = name.as_bytes();
-        let desc = desc.as_bytes();
         let Range { start, end } = self.methods_of(class);
         (start..end).find(|method| self.is_static_at(*method, name, desc))
     }

@@ -35,7 +35,7 @@ impl<'a> Iterator for Superclasses<'a> {
 
 impl ProgramTables {
     /// The class, its superclass, and so on up to `java/lang/Object`.
-    pub(super) fn superclasses(&self, class: ClassId) -> Superclasses<'_>
+    pub fn superclasses(&self, class: ClassId) -> Superclasses<'_>
         ensures tables { result.tables.now ≡ self.now }
         ensures classes { upward result.tables.now result.left result.next
             ≡ superclasses self.now class }

@@ -2,10 +2,10 @@
 
 ghost use Rattle.nr_linked.specs.BuiltIns.{built_in};
 ghost use Rattle.nr_linked.specs.declared.program.built_in.BuiltIn.TheVariants.{NullPointerException};
+ghost use Rattle.nr_linked.specs.Layout.{CodeInOrder};
 ghost use Rattle.nr_linked.specs.TypingFacts.{TypingFacts};
 ghost use Rattle.nr_linked.specs.WellTyped.{WellTyped};
 ghost use Rattle.nr_typed.specs.Example.{example};
-ghost use Rattle.nr_typed.specs.Offsets.{CodeInOrder};
 ghost use Rattle.nr_typed.specs.TypedAnswers.{CanBeThrown};
 
 /// Promises that the premises of the laws can be met: a program with two classes, an interface, an

@@ -79,7 +79,7 @@ fn find_slot(
 fn static_named(alloc: Global, program: &ProgramTables, row: &str) -> Result<Option<usize>, Fail> {
     let called = name(alloc, word(row, 1))?;
     let desc = name(alloc, word(row, 2))?;
-    Ok(program.static_named(id(row, 0), &called, &desc))
+    Ok(program.static_named(id(row, 0), called.as_bytes(), desc.as_bytes()))
 }
 
 fn find_static(

@@ -3,7 +3,7 @@ use Rattle.std.proofs.Common.{◌≡◌, ℕ, ◌+◌, ◌-◌, ◌≤◌, Bool,
 use Rattle.std.specs.Prelude.{Some, IsTrue, slice_get}
 use Rattle.std.specs.List.{list_all}
 use Rattle.std.specs.Option.{option_map}
-use Rattle.std.proofs.lemmas.Bool.{ltb-false}
+use Rattle.std.proofs.lemmas.Bool.{le-ltb, ltb-false}
 use Rattle.std.proofs.lemmas.Option.{slice_get-map}
 use Rattle.nr_linked.specs.declared.program.built_in.BuiltIn.{BuiltIn}
 use Rattle.nr_linked.specs.declared.program.built_in.BuiltIn.TheVariants.{Object, Cloneable, Throwable, Exception, Error, RuntimeException, ArithmeticException, ArrayStoreException, ClassCastException, IllegalArgumentException, IllegalStateException, IndexOutOfBoundsException, NegativeArraySizeException, NullPointerException, ArrayIndexOutOfBoundsException, LinkageError, IncompatibleClassChangeError, AbstractMethodError, Serializable, Restorable, Out, RemoteFault}
@@ -14,7 +14,7 @@ use Rattle.nr_linked.specs.BuiltIns.{BuiltInMethod, built_in, built_in_class, nu
 use Rattle.nr_linked.specs.BuiltInTables.{built_in_info, built_in_infos, built_in_method, built_in_methods, built_ins}
 use Rattle.nr_linked.specs.Linked.{Linked, first_built_in, first_built_in_method, is_loaded}
 use Rattle.nr_linked.specs.Programs.{class_at, method_at}
-use Rattle.nr_links.proofs.Places.{get_dropped, get_flat, get_mapped, passes_at}
+use Rattle.nr_linked.proofs.Elements.{get_dropped, get_flat, get_mapped, passes_at}
 
 abbrev pub info_of : ProgramTables → BuiltIn → ClassInfo
 info_of P b = built_in_info (first_built_in P) (first_built_in_method P) b
@@ -82,6 +82,9 @@ of_built_in_method P linked n i is over =
     let r = get_flat (λ b. map (built_in_method (f + number b)) (built_in_class b).methods) built_ins k i here in
     let m = get_mapped (built_in_method (f + number r.1)) (built_in_class r.1).methods r.2 i r.4 in
     record { holder = r.1; method = m.0; place = r.2; declares = m.1; is = m.2 }
+
+pub not_loaded : (P : ProgramTables) (b : BuiltIn) → is_loaded P (built_in P b) ≡ false
+not_loaded P b = le-ltb (built_in P b) (first_built_in P) (omega arith)
 
 -- ---- facts of all of them
 

@@ -8,7 +8,7 @@ use Rattle.nr_linked.specs.declared.program.tables.ProgramTables.{ProgramTables}
 use Rattle.nr_linked.specs.Linked.{Linked}
 use Rattle.nr_linked.specs.Programs.{class_at, super_of, superclasses, upward}
 use Rattle.nr_linked.specs.Subtypes.{Above, IsDirectlyAbove, further, is_above, itself}
-use Rattle.nr_links.proofs.Places.{is_some_and, passing, some_of}
+use Rattle.nr_linked.proofs.Elements.{is_some_and, passing, some_of}
 
 -- ---- steps
 
