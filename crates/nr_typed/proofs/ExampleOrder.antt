@@ -1,20 +1,31 @@
+<<<<<<< HEAD
 -- The example's instructions stand in the order of their offsets, and one of its exceptions can be thrown.
 use Rattle.std.proofs.Common.{◌≡◌, ℕ, zero, suc, List, [], ◌∷◌, refl, subst, Bool, true, false, T, nat_lt}
+=======
+-- The example's instructions stand in the order of their offsets.
+use Rattle.std.proofs.Common.{◌≡◌, ℕ, zero, suc, List, [], ◌∷◌, refl, subst, Bool, true, T, nat_lt}
+>>>>>>> f6946a51628428d14e48c0ba797f58dfc1a2d06a
 use Rattle.std.specs.Prelude.{Option, Some, None, ◌&&◌, ◌==◌, slice_get}
 use Rattle.std.proofs.Math.Facts.{eqb_yes, ltb_yes}
 use Rattle.nr_prog.specs.declared.body.instruction.Instr.{Instr}
 use Rattle.nr_prog.specs.declared.body.whole.Body.{Body}
+<<<<<<< HEAD
 use Rattle.nr_prog.specs.Offsets.{RiseAbove, StandInOrder}
 use Rattle.nr_linked.specs.declared.program.built_in.BuiltIn.TheVariants.{NullPointerException}
+=======
+>>>>>>> f6946a51628428d14e48c0ba797f58dfc1a2d06a
 use Rattle.nr_linked.specs.declared.program.tables.MethodInfo.{MethodInfo}
-use Rattle.nr_linked.specs.BuiltIns.{built_in, built_in_class}
+use Rattle.nr_linked.specs.BuiltIns.{built_in_class}
 use Rattle.nr_linked.specs.BuiltInTables.{built_in_methods, built_in_method}
 use Rattle.nr_linked.specs.Layout.{CodeInOrder}
 use Rattle.nr_typed.specs.Example.{example}
+<<<<<<< HEAD
 use Rattle.nr_typed.specs.TypedAnswers.{CanBeThrown}
+=======
+use Rattle.nr_typed.specs.Offsets.{RiseAbove, AreInOrder, CodeInOrder}
+>>>>>>> f6946a51628428d14e48c0ba797f58dfc1a2d06a
 use Rattle.nr_typed.proofs.Assigning.{and_both}
 use Rattle.nr_typed.proofs.Steps.{none_some, some_same}
-use Rattle.nr_typed.proofs.ExampleLinked.{example_facts}
 
 do_rise : ℕ → List Instr → Bool
 do_rise at [] = true
@@ -59,6 +70,3 @@ all_example = tt
 
 pub example_in_order : CodeInOrder example
 example_in_order n m body e f = of_methods example.methods all_example n m body e f
-
-pub example_thrown : CanBeThrown example (built_in example NullPointerException)
-example_thrown = let f = example_facts.thrown NullPointerException refl in record { makeable = f.1; throwable = f.0 }
