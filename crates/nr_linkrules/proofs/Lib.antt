@@ -1,0 +1,2 @@
+pub mod ExampleFaults
+pub mod ExamplePrograms
