@@ -1,2 +1,13 @@
 pub mod ExampleFaults
 pub mod ExamplePrograms
+pub mod Reached
+pub mod NameLaws
+pub mod Outlined
+pub mod Alike
+pub mod Passed
+pub mod Ranks
+pub mod Naming
+pub mod Finding
+pub mod Inherited
+pub mod Given
+pub mod Learnt
