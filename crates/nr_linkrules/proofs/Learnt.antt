@@ -14,33 +14,7 @@ use Rattle.nr_linkrules.specs.ClassRules.{doubled_fault, limit_fault, list_fault
 use Rattle.nr_linkrules.specs.Faults.{first_numbered, first_of, unless}
 use Rattle.nr_linkrules.specs.Outline.{names_of, number_in, own_name, own_names}
 use Rattle.nr_linkrules.proofs.NameLaws.{turned}
-
-both_none : (a b : Option LinkFault) → option_or a b ≡ None → (a ≡ None) × (b ≡ None)
-both_none None b e = (refl, e)
-both_none (Some x) b e = absurd cc
-
-passes : (test : Bool) (fault : LinkFault) → unless test fault ≡ None → test ≡ true
-passes true fault e = refl
-passes false fault e = absurd cc
-
-is_false : (b : Bool) → not b ≡ true → b ≡ false
-is_false true e = absurd cc
-is_false false e = refl
-
-each_numbered : {X : Type 0} (fault : ℕ → X → Option LinkFault) (n : ℕ) (xs : List X) → first_numbered fault n xs ≡ None → (m k : ℕ) (x : X) → m ≡ n + k → slice_get xs k ≡ Some x → fault m x ≡ None
-unfolding first_numbered
-each_numbered fault n [] e m k x is at = absurd cc
-each_numbered fault n (y ∷ xs) e m zero x is at =
-    let same = Rattle.std.proofs.lemmas.Option.same_Some y x at in
-    let place : n ≡ m = omega (arith, is) in
-    subst (λ m. fault m x ≡ None) place (subst (λ x. fault n x ≡ None) same (both_none (fault n y) (first_numbered fault (n + 1) xs) e).0)
-each_numbered fault n (y ∷ xs) e m (suc k) x is at = each_numbered fault (n + 1) xs (both_none (fault n y) (first_numbered fault (n + 1) xs) e).1 m k x (omega (arith, is)) at
-
-each_of : {X : Type 0} (fault : X → Option LinkFault) (xs : List X) → first_of fault xs ≡ None → (k : ℕ) (x : X) → slice_get xs k ≡ Some x → fault x ≡ None
-unfolding first_of
-each_of fault [] e k x at = absurd cc
-each_of fault (y ∷ xs) e zero x at = subst (λ x. fault x ≡ None) (Rattle.std.proofs.lemmas.Option.same_Some y x at) (both_none (fault y) (first_of fault xs) e).0
-each_of fault (y ∷ xs) e (suc k) x at = each_of fault xs (both_none (fault y) (first_of fault xs) e).1 k x at
+use Rattle.nr_linkrules.proofs.NoFault.{both_none, each_numbered, each_of, is_false, passes}
 
 -- ---- the first place at which a test passes
 

@@ -2,9 +2,13 @@ pub mod ExampleFaults
 pub mod ExamplePrograms
 pub mod Reached
 pub mod NameLaws
+pub mod Parts
 pub mod Outlined
+pub mod OutlinedMethods
 pub mod Alike
+pub mod NoFault
 pub mod Passed
+pub mod PassedMembers
 pub mod Ranks
 pub mod Naming
 pub mod Finding

@@ -27,28 +27,7 @@ use Rattle.nr_links.proofs.Places.{get_below, get_dropped, passing}
 use Rattle.nr_links.proofs.SlotFacts.{LoadedEntry, below_loaded, loaded_entry}
 use Rattle.nr_linkrules.specs.Outline.{bare_class, class_number, names_of, number_in, outline, outline_class, outline_classes, own_name, own_names, some_text}
 use Rattle.nr_linkrules.proofs.NameLaws.{known_by_texts}
-
--- ---- lists in two parts
-
--- the element at a place of two lists, one behind the other
-get_front : {X : Type 0} (xs ys : List X) (k : ℕ) → k < length xs → slice_get (xs ++ ys) k ≡ slice_get xs k
-get_front [] ys k lt = absurd (omega (arith, lt))
-get_front (x ∷ xs) ys zero lt = refl
-get_front (x ∷ xs) ys (suc k) lt = get_front xs ys k (omega (arith, lt))
-
-get_back : {X : Type 0} (xs ys : List X) (j : ℕ) → slice_get (xs ++ ys) (length xs + j) ≡ slice_get ys j
-get_back [] ys j = ap (slice_get ys) (omega arith)
-get_back (x ∷ xs) ys j = let e : length (x ∷ xs) + j ≡ suc (length xs + j) = omega arith in ap (slice_get (x ∷ xs ++ ys)) e ∙ get_back xs ys j
-
--- a list is two others, one behind the other
-two_parts : {X : Type 0} (zs xs ys : List X) → ((k : ℕ) (x : X) → slice_get xs k ≡ Some x → slice_get zs k ≡ Some x) → drop (length xs) zs ≡ ys → zs ≡ xs ++ ys
-two_parts zs xs ys front back = same_list zs (xs ++ ys) (λ k. elim (cases_lt k (length xs)) [
-  | inl lt ↦ let x = get_below xs k lt in front k x.0 x.1 ∙ sym x.1 ∙ sym (get_front xs ys k lt)
-  | inr past ↦ let r = rest k past in ap (slice_get zs) r.1 ∙ sym (get_dropped zs (length xs) r.0) ∙ ap (λ zs. slice_get zs r.0) back ∙ sym (get_back xs ys r.0) ∙ ap (slice_get (xs ++ ys)) (sym r.1)
-])
-  where
-    rest : (k : ℕ) → Rattle.std.proofs.Common.◌≤◌ (length xs) k → (j : ℕ) × (k ≡ length xs + j)
-    rest k past = (Rattle.std.proofs.Common.◌-◌ k (length xs), omega (arith, past))
+use Rattle.nr_linkrules.proofs.Parts.{drop_map, two_parts}
 
 -- ---- the entries of an outline
 
@@ -79,10 +58,10 @@ unfolding bare_class built_in_infos built_in_info
 bare_built_ins a m = refl
 
 module _ (classes : List Loaded) (P : ProgramTables) (links : Links classes P) where
-  loaded_count : first_built_in P ≡ length classes
+  pub loaded_count : first_built_in P ≡ length classes
   loaded_count = omega (arith, links.class_count)
 
-  first_method : first_built_in_method P ≡ method_count classes
+  pub first_method : first_built_in_method P ≡ method_count classes
   first_method = omega (arith, links.method_count)
 
   -- the classes behind those that were loaded
@@ -107,11 +86,6 @@ module _ (classes : List Loaded) (P : ProgramTables) (links : Links classes P) w
 
   pub own_name_is : (k : ℕ) (l : Loaded) (a : At k l) → a.e.name ≡ own_name l.«class»
   own_name_is k l a = ap some_text (sym a.entry.read_as.name) ∙ ap (λ (l : Loaded). own_name l.«class») a.same
-
-  drop_map : {X Y : Type 0} (f : X → Y) (n : ℕ) (xs : List X) → drop n (map f xs) ≡ map f (drop n xs)
-  drop_map f zero xs = refl
-  drop_map f (suc n) [] = refl
-  drop_map f (suc n) (x ∷ xs) = drop_map f n xs
 
   pub names_are : map (λ (e : ClassInfo). e.name) P.classes ≡ names_of classes
   names_are = two_parts (map (λ (e : ClassInfo). e.name) P.classes) (own_names classes) (map (λ b. (built_in_class b).name) built_ins)

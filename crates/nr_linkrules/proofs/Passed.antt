@@ -34,33 +34,9 @@ use Rattle.nr_linkrules.specs.Outline.{bare_class, names_of, number_in, outline,
 use Rattle.nr_linkrules.specs.Reaches.{reaches, steps_up}
 use Rattle.nr_linkrules.proofs.Alike.{above_itself, bare_says, entry, final_above, kinds_above, named}
 use Rattle.nr_linkrules.proofs.NameLaws.{known_by_texts, turned}
+use Rattle.nr_linkrules.proofs.NoFault.{any_at, listed_at, none_numbered, none_of, none_or, not_so, passed}
 use Rattle.nr_linkrules.proofs.Outlined.{at_loaded, classes_are, face_in, names_are, number_back, own_name_is}
 use Rattle.nr_linkrules.proofs.Reached.{reached_above}
-
--- ---- no fault
-
-none_or : (a b : Option LinkFault) → a ≡ None → b ≡ None → option_or a b ≡ None
-none_or None b e f = f
-none_or (Some x) b e f = absurd cc
-
-passed : (test : Bool) (fault : LinkFault) → test ≡ true → unless test fault ≡ None
-passed true fault e = refl
-passed false fault e = absurd cc
-
-not_so : (b : Bool) → b ≡ false → not b ≡ true
-not_so b e = ap not e
-
-none_numbered : {X : Type 0} (fault : ℕ → X → Option LinkFault) (n : ℕ) (xs : List X) → ((m k : ℕ) (x : X) → m ≡ n + k → slice_get xs k ≡ Some x → fault m x ≡ None) → first_numbered fault n xs ≡ None
-unfolding first_numbered
-none_numbered fault n [] h = refl
-none_numbered fault n (x ∷ xs) h =
-    none_or (fault n x) (first_numbered fault (n + 1) xs) (h n 0 x (omega arith) refl)
-    (none_numbered fault (n + 1) xs (λ m k y e at. h m (suc k) y (omega (arith, e)) at))
-
-none_of : {X : Type 0} (fault : X → Option LinkFault) (xs : List X) → ((k : ℕ) (x : X) → slice_get xs k ≡ Some x → fault x ≡ None) → first_of fault xs ≡ None
-unfolding first_of
-none_of fault [] h = refl
-none_of fault (x ∷ xs) h = none_or (fault x) (first_of fault xs) (h 0 x refl) (none_of fault xs (λ k. h (suc k)))
 
 module _ (classes : List Loaded) (P : ProgramTables) (links : Links classes P) where
   -- ---- the list of classes
@@ -107,10 +83,10 @@ module _ (classes : List Loaded) (P : ProgramTables) (links : Links classes P) w
 
   -- ---- rules on the classes that were loaded
 
-  abbrev O : ProgramTables
+  abbrev pub O : ProgramTables
   O = outline classes
 
-  each_loaded : (rule : Rule) → ((c : ℕ) (e : ClassInfo) (l : LoadedEntry classes P c e) → class_at P c ≡ Some e → rule c (bare_class e) l.l.«class» ≡ None) → first_class_fault rule O ≡ None
+  pub each_loaded : (rule : Rule) → ((c : ℕ) (e : ClassInfo) (l : LoadedEntry classes P c e) → class_at P c ≡ Some e → rule c (bare_class e) l.l.«class» ≡ None) → first_class_fault rule O ≡ None
   unfolding first_class_fault
   each_loaded rule h = none_numbered (on_loaded rule) 0 O.classes (λ m k f e at. subst (λ k. on_loaded rule k f ≡ None) (let f : k ≡ m = omega (arith, e) in f) (of_entry k f (class_at P k) refl (sym (entry P O (classes_are classes P links) k) ∙ at)))
     where
@@ -125,7 +101,7 @@ module _ (classes : List Loaded) (P : ProgramTables) (links : Links classes P) w
       of_entry k f None is e = absurd cc
       of_entry k f (Some g) is e = subst (λ f. on_loaded rule k f ≡ None) (same_Some (bare_class g) f e) (ap (λ o. option_map_or (rule k (bare_class g)) o None) (bare_says (λ (e : ClassInfo). e.read) (λ e. refl) g) ∙ of_read k g is g.read refl)
 
-  known : (c : ℕ) → IsTrue (is_class_in P c) → known_fault O (class_name P c) ≡ None
+  pub known : (c : ℕ) → IsTrue (is_class_in P c) → known_fault O (class_name P c) ≡ None
   unfolding known_fault
   known c p =
       let number = named P O (classes_are classes P links) (class_name P c) ∙ sym (known_by_texts (names_of classes) P (class_name P c) (sym (names_are classes P links))) ∙ number_back classes P links c p in
@@ -166,17 +142,10 @@ module _ (classes : List Loaded) (P : ProgramTables) (links : Links classes P) w
 
   -- ---- cycles
 
-  any_at : (p : ℕ → Bool) (xs : List ℕ) → IsTrue (list_any p xs) → (x : ℕ) × IsTrue (is_listed x xs) × IsTrue (p x)
-  any_at p [] h = absurd cc
-  any_at p (x ∷ xs) h = elim (or_cases (p x) (list_any p xs) h) [
-    | inl q ↦ (x, or_left (x == x) (is_listed x xs) (eq-eqb x x refl), q)
-    | inr q ↦ let r = any_at p xs q in (r.0, or_right (x == r.0) (is_listed r.0 xs) r.1, r.2)
-  ]
-
   not_above_itself : (c : ℕ) (e : ClassInfo) (l : Loaded) → slice_get classes c ≡ Some l → class_at P c ≡ Some e → is_above_itself P c ≡ false
   not_above_itself c e l at is = false_from_ne_true (is_above_itself P c) (λ p.
       let r = any_at (λ s. reaches P s c) (steps_up P c) p in
-      (links.rules c l e at is).cycle r.0 (step_direct (class_at P c) r.0 r.1) (reached_above P (length P.classes) r.0 c r.2))
+      (links.rules c l e at is).cycle r.1 (step_direct (class_at P c) r.1 (listed_at (steps_up P c) r.0 r.1 r.2)) (reached_above P (length P.classes) r.1 c r.3))
 
   pub no_cycle_fault : first_class_fault (cycle_fault O) O ≡ None
   unfolding cycle_fault

@@ -97,6 +97,10 @@ outline_methods c (l ∷ ls) =
 unfoldable pub bare_class : ClassInfo → ClassInfo
 bare_class e = option_map_or (λ parts. record e { supers = []; slots = [] }) e.read e
 
+-- the entry of a method without what linking finds
+unfoldable pub bare_method : MethodInfo → MethodInfo
+bare_method i = record i { params = []; result = None; resolved = []; catches = []; maps = [] }
+
 unfoldable pub outline : List Loaded → ProgramTables
 outline classes = record {
   classes = outline_classes (names_of classes) 0 classes ++ built_in_infos (length classes) (method_count classes);
