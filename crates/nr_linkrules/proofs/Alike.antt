@@ -6,8 +6,12 @@ use Rattle.std.specs.Option.{option_map, option_map_or}
 use Rattle.std.specs.Str.{bytes_eq}
 use Rattle.std.proofs.lemmas.List.{length-map}
 use Rattle.std.proofs.lemmas.Option.{slice_get-map}
+use Rattle.nr_base.specs.declared.desc.types.Desc.{Desc}
+use Rattle.nr_base.specs.declared.desc.types.DescBase.{DescBase}
+use Rattle.nr_base.specs.declared.desc.types.DescBase.TheVariants as desc_bases
 use Rattle.nr_prog.specs.declared.parts.ClassParts.{ClassParts}
 use Rattle.nr_linked.specs.declared.program.built_in.BuiltIn.{BuiltIn}
+use Rattle.nr_linked.specs.declared.program.kind.Base.TheVariants as bases
 use Rattle.nr_linked.specs.declared.program.tables.ClassInfo.{ClassInfo}
 use Rattle.nr_linked.specs.declared.program.tables.MethodInfo.{MethodInfo}
 use Rattle.nr_linked.specs.declared.program.tables.ProgramTables.{ProgramTables}
@@ -21,6 +25,7 @@ use Rattle.nr_links.proofs.OneNames.{same_functions}
 use Rattle.nr_linkrules.specs.declared.fault.LinkFault.TheVariants.{FinalOverride}
 use Rattle.nr_linkrules.specs.ClassRules.{has_final, has_final_above, has_final_over, has_kinds_above, hides_final, is_above_itself, is_final_as, method_name, override_fault}
 use Rattle.nr_linkrules.specs.Faults.{unless}
+use Rattle.nr_linkrules.specs.Layout.{base_of, kind_of}
 use Rattle.nr_linkrules.specs.Outline.{bare_class, bare_method}
 use Rattle.nr_linkrules.specs.Reaches.{reaches, reaches_by, steps_up}
 use Rattle.nr_linkrules.proofs.NameLaws.{same_place}
@@ -93,6 +98,21 @@ module _ (P Q : ProgramTables) (same : map bare_class P.classes ≡ Q.classes) w
 
   pub above_itself : (c : ℕ) → is_above_itself Q c ≡ is_above_itself P c
   above_itself c = λ i. list_any (same_functions (λ s. reaches Q s c) (λ s. reaches P s c) (λ s. reached s c) i) (steps c i)
+
+-- ---- kinds
+
+module _ (P Q : ProgramTables) (same : (name : List ℕ) → class_named Q name ≡ class_named P name) where
+  bases_alike : (b : DescBase) → base_of Q b ≡ base_of P b
+  bases_alike desc_bases.Bool = refl
+  bases_alike desc_bases.Byte = refl
+  bases_alike desc_bases.Char = refl
+  bases_alike desc_bases.Short = refl
+  bases_alike desc_bases.Int = refl
+  bases_alike desc_bases.Long = refl
+  bases_alike (desc_bases.Object name) = ap (option_map (λ c. bases.Object c)) (same name)
+
+  pub kinds_alike : (d : Desc) → kind_of Q d ≡ kind_of P d
+  kinds_alike d = ap (option_map (λ b. record { dims = d.dims; base = b })) (bases_alike d.base)
 
 -- ---- methods
 

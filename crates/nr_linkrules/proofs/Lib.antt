@@ -9,6 +9,8 @@ pub mod Alike
 pub mod NoFault
 pub mod Passed
 pub mod PassedMembers
+pub mod Rising
+pub mod LaidOut
 pub mod Ranks
 pub mod Naming
 pub mod Finding

@@ -133,7 +133,7 @@ module _ (classes : List Loaded) (P : ProgramTables) (links : Links classes P) w
   entry_same e f name flags super_class interfaces supers slots first_method methods read =
       λ i. record { name = name i; flags = flags i; super_class = super_class i; interfaces = interfaces i; supers = supers i; slots = slots i; first_method = first_method i; methods = methods i; read = read i }
 
-  bare_loaded : (e : ClassInfo) (parts : ClassParts) → e.read ≡ Some parts → bare_class e ≡ record e { supers = []; slots = [] }
+  pub bare_loaded : (e : ClassInfo) (parts : ClassParts) → e.read ≡ Some parts → bare_class e ≡ record e { supers = []; slots = [] }
   unfolding bare_class
   bare_loaded e parts r = ap (λ o. option_map_or (λ (parts : ClassParts). record e { supers = []; slots = [] }) o e) r
 
