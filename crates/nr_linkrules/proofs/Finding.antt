@@ -91,10 +91,10 @@ module _ (P : ProgramTables) (linked : Linked P) (own : ℕ) (entry : ClassInfo)
 
   -- ---- what is found is given
 
-  module _ (pool : List PoolEntry) (all : All IsText pool) (p : Place) (here : p.own ≡ own) where
+  module _ (pool : List PoolEntry) (p : Place) (here : p.own ≡ own) where
     slot_given : (named member : ℕ) (r : Resolved) → IsSlotFound P pool named member r → on_member P pool (slot_found P p) named member ≡ Ok r
     slot_given named member r f =
-        then_of _ _ f.kind (named_is_found P pool all linked named f.kind f.names.kind)
+        then_of _ _ f.kind (named_is_found P pool linked named f.kind f.names.kind)
         ∙ ap (λ t. slot_found P p (some_text t) (some_text (desc_text_at pool member)) f.kind) f.names.named
         ∙ ap (λ t. slot_found P p f.name (some_text t) f.kind) f.names.described
         ∙ then_of _ (slot_in P p f.name f.desc) f.holder (wrap _ (class_with_members P f.kind) f.holder f.holds)
@@ -124,7 +124,7 @@ module _ (P : ProgramTables) (linked : Linked P) (own : ℕ) (entry : ClassInfo)
         let method : method_of P f.kind f.name f.desc f.holder ≡ Some f.method = ap (λ b. if b then None else resolved_method P f.holder f.name f.desc) no ∙ f.resolves in
         let can : option_map_or (can_call P p.own code f.holder) (method_at P f.method) false ≡ true =
         ap (λ o. option_map_or (can_call P p.own code f.holder) o false) f.is_callee ∙ ap (λ own. can_call P own code f.holder f.callee) here ∙ passes_call code f.holder f.callee f.can_call in
-        then_of _ _ f.kind (named_is_found P pool all linked named f.kind f.names.kind)
+        then_of _ _ f.kind (named_is_found P pool linked named f.kind f.names.kind)
         ∙ ap (λ t. method_found P p code (some_text t) (some_text (desc_text_at pool member)) f.kind) f.names.named
         ∙ ap (λ t. method_found P p code f.name (some_text t) f.kind) f.names.described
         ∙ then_of _ (method_in P p code f.name f.desc f.kind) f.holder (wrap _ (class_with_members P f.kind) f.holder f.holds)
@@ -151,12 +151,12 @@ module _ (P : ProgramTables) (linked : Linked P) (own : ℕ) (entry : ClassInfo)
 
     made_given : (index : ℕ) (r : Resolved) → IsMadeFound P pool index r → then_on (kind_at P pool index) (made_found P p) ≡ Ok r
     made_given index r f =
-        then_of _ (made_found P p) (class_kind f.made) (named_is_found P pool all linked index (class_kind f.made) f.names)
+        then_of _ (made_found P p) (class_kind f.made) (named_is_found P pool linked index (class_kind f.made) f.names)
         ∙ ap (λ b. if b then Ok (resolved.Kind (class_kind f.made)) else Err (Rattle.nr_linkrules.specs.declared.fault.LinkFault.TheVariants.NotMakeable p.class_name p.method p.at)) f.makeable
         ∙ ap (λ r. Ok r) (sym f.found)
 
     kind_given : (index : ℕ) (r : Resolved) → IsKindFound P pool index r → ◌≡◌ {A = Finding Resolved} (then_on (kind_at P pool index) (λ k. Ok (resolved.Kind k))) (Ok r)
-    kind_given index r f = then_of _ _ f.kind (named_is_found P pool all linked index f.kind f.names) ∙ ap (λ r. Ok r) (sym f.found)
+    kind_given index r f = then_of _ _ f.kind (named_is_found P pool linked index f.kind f.names) ∙ ap (λ r. Ok r) (sym f.found)
 
     given_by : (code index : ℕ) (r : Resolved) (f : Family) → IsFoundBy P own code pool index r f → found_by P p pool code index f ≡ Ok r
     given_by code index r F8 f = entry_given (IsConstantFound r) constant_found index r (λ e. constant_given e r) f
@@ -168,10 +168,10 @@ module _ (P : ProgramTables) (linked : Linked P) (own : ℕ) (entry : ClassInfo)
     given_by code index r F37 f = kind_given index r f
     given_by code index r family f = ap (λ r. Ok r) (sym f)
 
-  pub found_is_given : (pool : List PoolEntry) → All IsText pool → (place : ℕ → Place) → ((at : ℕ) → (place at).own ≡ own) → (i : Instr) (r : Resolved) → IsFound P own pool i r → instr_found P place pool i ≡ Ok r
+  pub found_is_given : (pool : List PoolEntry) (place : ℕ → Place) → ((at : ℕ) → (place at).own ≡ own) → (i : Instr) (r : Resolved) → IsFound P own pool i r → instr_found P place pool i ≡ Ok r
   unfolding instr_found
-  found_is_given pool all place here i r f = of_option (index_in i.args) f
+  found_is_given pool place here i r f = of_option (index_in i.args) f
     where
       of_option : (o : Option ℕ) → IsFoundAt P own pool i r o → option_map_or (λ index. found_by P (place i.at) pool i.row.code index i.row.family) o (Ok resolved.Nothing) ≡ Ok r
       of_option None f = ap (λ r. Ok r) (sym f)
-      of_option (Some index) f = given_by pool all (place i.at) (here i.at) i.row.code index r i.row.family f
+      of_option (Some index) f = given_by pool (place i.at) (here i.at) i.row.code index r i.row.family f

@@ -117,7 +117,7 @@ module _ (pool : List PoolEntry) (formed : (index : ℕ) (e : PoolEntry) → ent
         let here_method = split (is_array k.0 && bytes_eq m.name (codes "<init>")) (resolved_method P c.0 m.name m.desc) n.0 (unwrap _ (method_of P k.0 m.name m.desc c.0) n.0 n.1) in
         let test = by_test (option_map_or (can_call P p.own code c.0) (method_at P n.0) false) (resolved.Method n.0 c.0) r _ n.2 in
         let callee = passing (can_call P p.own code c.0) (method_at P n.0) test.0 in
-        let callee_name = resolved_name P linked own entry own_is pool all p here c.0 n.0 m.name m.desc callee.0 here_method.1 callee.1 in
+        let callee_name = resolved_name P linked own entry own_is pool p here c.0 n.0 m.name m.desc callee.0 here_method.1 callee.1 in
         record {
           kind = k.0;
           name = m.name;

@@ -11,6 +11,7 @@ pub mod Passed
 pub mod PassedMembers
 pub mod Rising
 pub mod LaidOut
+pub mod SameFound
 pub mod Ranks
 pub mod Naming
 pub mod Finding

@@ -40,7 +40,7 @@ use Rattle.nr_linkrules.specs.Layout.{base_of, kind_of}
 use Rattle.nr_linkrules.specs.Outline.{some_text}
 use Rattle.nr_linkrules.specs.SiteRules.{Finding, kind_at, kind_named, or_fault}
 
--- ---- the class that bytes name (as nr_code proves it; the two laws should move to nr_instrs)
+-- ---- the class that bytes name
 
 array_at : (b : Bool) (x d : Desc) → eqb x.dims 0 ≡ b → cond b None (Some x) ≡ Some d → (x ≡ d) × (d.dims ≡ 0 → ⊥)
 array_at true x d e f = absurd cc
@@ -77,10 +77,6 @@ class_desc_of bytes d (inl h) = ap (λ b. cond b (Some (object bytes)) (array_in
 class_desc_of bytes d (inr h) =
     ap (λ b. cond b (Some (object bytes)) (array_in (desc_of bytes))) (no_class bytes d h.0 h.1)
     ∙ ap array_in (reads_desc bytes d h.0) ∙ ap (λ b. cond b None (Some d)) (ne_eqb d.dims 0 (omega (arith, h.1)))
-
--- what is found exactly where P holds of it
-pub record Finds (o : Option Desc) (P : Desc → Type 0) : Type 0 where
-  pub is : (d : Desc) → o ≡ Some d → P d
 
 -- ---- findings
 
@@ -153,11 +149,11 @@ kind_back P linked k p = ap (option_map (λ b. record { dims = k.dims; base = b 
 
 -- ---- entries of the pool
 
-module _ (P : ProgramTables) (pool : List PoolEntry) (all : All IsText pool) where
+module _ (P : ProgramTables) (pool : List PoolEntry) where
   -- what is found is named
-  pub kind_is_named : (index : ℕ) (bytes : List ℕ) (k : Kind) → class_text_at pool index ≡ Some bytes → kind_at P pool index ≡ Ok k → NamesKind P pool index k
+  pub kind_is_named : All IsText pool → (index : ℕ) (bytes : List ℕ) (k : Kind) → class_text_at pool index ≡ Some bytes → kind_at P pool index ≡ Ok k → NamesKind P pool index k
   unfolding kind_named
-  kind_is_named index bytes k at e =
+  kind_is_named all index bytes k at e =
       let found = unwrap _ _ k (ap (λ t. kind_named P (some_text t)) (sym at) ∙ e) in
       let d = and_then_from (kind_of P) (class_desc bytes) k found in
       let says = kind_says P d.0 k d.2 in
