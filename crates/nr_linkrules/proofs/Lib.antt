@@ -12,6 +12,7 @@ pub mod PassedMembers
 pub mod Rising
 pub mod LaidOut
 pub mod SameFound
+pub mod PassedCode
 pub mod Ranks
 pub mod Naming
 pub mod Finding

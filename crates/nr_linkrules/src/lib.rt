@@ -7,4 +7,4 @@ mod fault;
 mod law;
 
 pub use fault::{LinkFault, MethodName};
-pub use law::{linked_classes_have_no_fault, lists_have_their_faults};
+pub use law::{examples_can_link, linked_classes_have_no_fault, lists_have_their_faults};
