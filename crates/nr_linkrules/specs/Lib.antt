@@ -1,0 +1,10 @@
+pub mod Outline
+pub mod Reaches
+pub mod Layout
+pub mod Faults
+pub mod ClassRules
+pub mod SiteRules
+pub mod LinkFaults
+pub mod Completion
+pub mod Mains
+pub mod Examples
