@@ -1,0 +1,7 @@
+pub mod Passing
+pub mod Sound
+pub mod Complete
+pub mod Decides
+pub mod Suited
+pub mod Never
+pub mod Failing
