@@ -8,6 +8,7 @@ mod items;
 mod name;
 mod put;
 mod result_word;
+mod shared;
 #[cfg(test)]
 mod tests;
 
@@ -17,3 +18,4 @@ pub use items::Items;
 pub use name::{Name, NameFault};
 pub use put::Put;
 pub use result_word::ResultWord;
+pub use shared::Shared;
