@@ -23,7 +23,7 @@ SECONDS, BYTES = 10, 1 << 30
 CEILING, PATIENCE = 8 << 30, 120  # what a program that keeps no rule may take before it is stopped
 
 ABSTRACT, PUBLIC, STATIC = 0x0400, 0x0001, 0x0008
-NOP, RETURN, CHECKCAST, LDC_W, INTERFACE_CALL, ARRAYS = 0, 177, 192, 19, 185, 197
+NOP, CHECKCAST, INTERFACE_CALL, ARRAYS = 0, 192, 185, 197
 
 
 def u2(n):
@@ -110,12 +110,6 @@ def casts(f):
     index = f.named(LONG_NAME)
     for n in range(14):
         f.method(letters(n), '()V', filled(CHECKCAST, u2(index)))
-
-
-def class_constants(f):
-    index = f.named(LONG_NAME)
-    for n in range(14):
-        f.method(letters(n), '()V', filled(LDC_W, u2(index)))
 
 
 def arrays(f):
@@ -241,7 +235,7 @@ def descriptors(f):
 
 
 CASES = [
-    interfaces, class_entries, casts, class_constants, arrays, interface_calls,
+    interfaces, class_entries, casts, arrays, interface_calls,
     methods_of_one_name, methods_of_one_descriptor, fields_of_one_name, fields_of_one_descriptor, texts_alike,
     handlers, handlers_of_a_class,
     types_of_a_class, same_frames, more_same_frames, frames_in_methods, chopped_frames, frames_of_a_class,
