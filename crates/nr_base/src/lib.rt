@@ -9,6 +9,7 @@ mod law;
 mod name;
 mod put;
 mod result_word;
+mod shared;
 #[cfg(test)]
 mod tests;
 
@@ -19,3 +20,4 @@ pub use law::descriptors_are_names;
 pub use name::{Name, NameFault};
 pub use put::Put;
 pub use result_word::ResultWord;
+pub use shared::Shared;

@@ -4,3 +4,4 @@ pub mod Handlers
 pub mod Classes
 pub mod MapLaws
 pub mod Bodies
+pub mod Params

@@ -5,3 +5,5 @@ pub mod Bounds
 pub mod HandlerChecks
 pub mod MapReading
 pub mod Decoding
+pub mod EntryForms
+pub mod Rooms

@@ -13,6 +13,7 @@ ghost use Rattle.nr_code.specs.Decoding.{bodies_of, body_in, body_step, loaded_o
 ghost use Rattle.nr_code.specs.Bounds.{IsShort, AreShort};
 
 use crate::fault::LoadFault;
+use crate::maps::Room;
 use crate::whole::{decode_code, know_class};
 use nr_base::Items;
 use nr_classread::read_class;
@@ -26,6 +27,7 @@ fn read_body(
     class: &Class,
     place: u16,
     method: &Method,
+    room: &mut Room,
 ) -> Result<Option<Body>, LoadFault>
     requires short { IsShort method.now.code }
     requires formed { IsMethodFormed class.now.pool method.now }
@@ -35,7 +37,7 @@ fn read_body(
     let Some(code) = &method.code else {
         return Ok(None);
     };
-    match decode_code(alloc, class, method, code) {
+    match decode_code(alloc, class, method, code, room) {
         Ok(body) => Ok(Some(body)),
         Err(CodeFault::NoMemory) => Err(LoadFault::NoMemory),
         Err(fault) => Err(LoadFault::Code(place, fault)),
@@ -49,6 +51,7 @@ fn body_onto(
     place: u16,
     method: &Method,
     bodies: &mut Items<Option<Body>>,
+    room: &mut Room,
 ) -> Result<(), LoadFault>
     requires short { IsShort method.now.code }
     requires formed { IsMethodFormed class.now.pool method.now }
@@ -56,7 +59,7 @@ fn body_onto(
     ensures found { OnOk result ((ms : List MethodView) → EachBody class.now ms bodies.old → EachBody class.now (ms ++ method.now ∷ []) bodies.new) }
     ensures exact { GivesWholeBy is_load_free (λ _. bodies.new) result (body_step class.now bodies.old method.now) }
 {
-    let body = read_body(alloc, class, place, method)?;
+    let body = read_body(alloc, class, place, method, room)?;
     bodies.push(body)?;
     Ok(())
 }
@@ -68,8 +71,9 @@ fn read_all(alloc: Global, class: &Class) -> Result<Items<Option<Body>>, LoadFau
     ensures exact { GivesWhole is_load_free result (bodies_of class.now) }
 {
     let mut bodies = Items::new(alloc);
+    let mut room = Room::new();
     for (place, method) in class.parts().methods.as_slice().iter().enumerate() {
-        body_onto(alloc, class, place as u16, method, &mut bodies)?;
+        body_onto(alloc, class, place as u16, method, &mut bodies, &mut room)?;
     }
     Ok(bodies)
 }
@@ -92,7 +96,7 @@ fn read_bodies(alloc: Global, class: &Class) -> Result<Items<Option<Body>>, Load
 ///
 /// `Class` with the first fault of the file, whatever its code; then `Code`, with the place of the
 /// first method whose code is refused and the first fault of that code; `NoMemory` for want of
-/// memory.
+/// memory, and where the frame maps of all methods have more than 16,777,216 types.
 #[tactic(auto, unfolding(crate::specs::Decoding::loaded_of))]
 pub fn load_class(alloc: Global, bytes: &[u8]) -> Result<Loaded, LoadFault>
     requires { length bytes.now < 2 ^ 32 }

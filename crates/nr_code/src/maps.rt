@@ -3,7 +3,9 @@
 mod copies;
 mod entry;
 mod frame;
+mod room;
 mod types;
 
 pub use entry::entry_locals;
 pub use frame::read_frames;
+pub use room::Room;

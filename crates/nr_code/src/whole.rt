@@ -14,7 +14,7 @@ ghost use Rattle.nr_prog.specs.declared.body.whole.Body.{Body as BodyView};
 ghost use Rattle.nr_code.specs.Decoding.{body_of, maps_of};
 
 use crate::handler::check_handlers;
-use crate::maps::{entry_locals, read_frames};
+use crate::maps::{Room, entry_locals, read_frames};
 use nr_base::Items;
 use nr_instrs::{CodeFault, Starts, decode_instrs};
 use nr_prog::{Body, Class, Code, FrameMap, Handler, Method};
@@ -27,6 +27,7 @@ fn maps(
     method: &Method,
     starts: &Starts,
     maps: &Option<Items<u8>>,
+    room: &mut Room,
 ) -> Result<Items<FrameMap>, CodeFault>
     requires { IfSome maps.now (λ contents. length contents < 2 ^ 32) }
     ensures { GivesWhole is_free result (maps_of class.now method.now starts.now maps.now) }
@@ -35,7 +36,7 @@ fn maps(
         None => Ok(Items::new(alloc)),
         Some(contents) => {
             let locals = entry_locals(alloc, class, method)?;
-            read_frames(alloc, class, starts, locals, contents.as_slice())
+            read_frames(alloc, class, starts, locals, contents.as_slice(), room)
         }
     }
 }
@@ -53,15 +54,21 @@ fn copied(alloc: Global, handlers: &[Handler]) -> Result<Items<Handler>, CodeFau
 
 /// The code of a method, by its reading.
 #[tactic(auto, unfolding(crate::specs::Decoding::body_of))]
-fn body(alloc: Global, class: &Class, method: &Method, code: &Code) -> Result<Body, CodeFault>
+fn body(
+    alloc: Global,
+    class: &Class,
+    method: &Method,
+    code: &Code,
+    room: &mut Room,
+) -> Result<Body, CodeFault>
     requires { IsSized code.now }
     ensures { GivesWhole is_free result (body_of class.now method.now code.now) }
 {
     let instrs = decode_instrs(alloc, class, code.bytes.as_slice())?;
     let starts = Starts::of(instrs.as_slice());
     let handlers = code.handlers.as_slice();
-    check_handlers(alloc, class, code.bytes.len(), &starts, handlers)?;
-    let maps = maps(alloc, class, method, &starts, &code.maps)?;
+    check_handlers(class, code.bytes.len(), &starts, handlers)?;
+    let maps = maps(alloc, class, method, &starts, &code.maps, room)?;
     Ok(Body {
         instrs,
         handlers: copied(alloc, handlers)?,
@@ -93,12 +100,13 @@ pub fn know_class(class: &Class)
     let _parts = class.parts();
 }
 
-/// The code of a method of the class.
+/// The code of a method of the class, whose frame maps take their types out of the room.
 pub fn decode_code(
     alloc: Global,
     class: &Class,
     method: &Method,
     code: &Code,
+    room: &mut Room,
 ) -> Result<Body, CodeFault>
     requires sized { IsSized code.now }
     requires method { IsMethodFormed class.now.pool method.now }
@@ -108,7 +116,7 @@ pub fn decode_code(
 {
     know_class(class);
     know_code(code);
-    body(alloc, class, method, code)
+    body(alloc, class, method, code, room)
 }
 
 /// The code of the method at a place in the class, from 0 (JVM Specification 4.7.3, 4.7.4, 6.5).
@@ -117,7 +125,7 @@ pub fn decode_code(
 ///
 /// The first fault of the code, as `CodeFault` says: of the instructions, then of the targets of
 /// their branches, then of the exception handlers, then of the frame maps. `NoMemory` for want of
-/// memory.
+/// memory, and where the frame maps have more than 16,777,216 types in all.
 pub fn decode(alloc: Global, class: &Class, method: u16) -> Result<Body, CodeFault>
     requires code { IsSome (code_at class.now method) }
     requires maps { HasShortMaps (code_at class.now method) }
@@ -131,5 +139,5 @@ pub fn decode(alloc: Global, class: &Class, method: u16) -> Result<Body, CodeFau
     let Some(code) = &method.code else {
         unreachable!()
     };
-    decode_code(alloc, class, method, code)
+    decode_code(alloc, class, method, code, &mut Room::new())
 }

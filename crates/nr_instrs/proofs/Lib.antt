@@ -3,8 +3,9 @@ pub mod Moves
 pub mod Advances
 pub mod Loops
 pub mod Walks
-pub mod Names
 pub mod Facts
+pub mod Forms
+pub mod ClassDescs
 pub mod OperandLaws
 pub mod Raws
 pub mod Texts

@@ -1,5 +1,6 @@
 pub mod Faults
 pub mod NameTests
+pub mod NameForms
 pub mod Numbers
 pub mod OperandReading
 pub mod InstrReading

@@ -14,8 +14,8 @@ use Rattle.nr_prog.specs.declared.pool.PoolEntry.{PoolEntry}
 use Rattle.nr_prog.specs.declared.pool.PoolEntry.TheVariants.{Integer, Float, Class, Str, FieldRef, MethodRef, InterfaceMethodRef}
 use Rattle.nr_prog.specs.Pool.{names, is_integer, is_long, is_wide}
 use Rattle.nr_prog.specs.Members.{spells}
-use Rattle.nr_prog.specs.LegalTests.{is_class_text}
-use Rattle.nr_prog.specs.BodyNames.{class_text_at, desc_text_at, object, is_of_long}
+use Rattle.nr_prog.specs.TextForms.{class_desc}
+use Rattle.nr_prog.specs.BodyNames.{class_text_at, desc_text_at, is_of_long}
 
 -- ---- classes
 
@@ -95,14 +95,6 @@ is_kept pool F8 index = names (λ e. is_integer e || is_long e) pool index
 is_kept pool family index = true
 
 -- ---- classes as types
-
-abbrev pub array_in : Result Desc DescFault → Option Desc
-array_in (Ok d) = if d.dims == 0 then None else Some d
-array_in (Err e) = None
-
--- the class or the array that the bytes name
-unfoldable pub class_desc : List ℕ → Option Desc
-class_desc bytes = if is_class_text bytes then Some (object bytes) else array_in (desc_of bytes)
 
 -- the class or the array that the index names
 unfoldable pub class_desc_at : List PoolEntry → ℕ → Option Desc

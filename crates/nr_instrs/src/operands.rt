@@ -52,6 +52,6 @@ pub fn read_operands(
         Shape::B4 => read_far_jump(at, cur),
         Shape::Tab => read_table(alloc, at, cur),
         Shape::Look => read_lookup(alloc, at, cur),
-        shape => Ok(Operands::Plain(read_plain(alloc, class, row, at, shape, cur)?)),
+        shape => Ok(Operands::Plain(read_plain(class, row, at, shape, cur)?)),
     }
 }

@@ -13,7 +13,6 @@ use Rattle.nr_prog.specs.Faults.{Fails, first_fault}
 use Rattle.nr_prog.specs.Rules.{field_fault, method_fault, members_fault}
 use Rattle.nr_prog.specs.Members.{spells, is_spelled, is_among, is_in, is_in_profile, is_profile_method}
 use Rattle.nr_prog.proofs.Walks.{goes_on, fails_in, ends}
-use Rattle.nr_prog.specs.Seen.{is_pair}
 use Rattle.nr_prog.specs.LegalTests.{is_void_desc}
 
 pub spells_at : (test : List ℕ → Bool) (pool : List PoolEntry) (index : ℕ) (text : List ℕ) → text_at pool index ≡ Some text → spells test pool index ≡ test text
@@ -25,7 +24,7 @@ pub among_at : (earlier : List ℕ → List ℕ → Bool) (pool : List PoolEntry
 unfolding is_among
 among_at earlier pool n d name desc a b = spells_at (λ x. spells (earlier x) pool d) pool n name a ∙ spells_at (earlier name) pool d desc b
 
-pub spelled_at : (pool : List PoolEntry) (x y : List ℕ) (n d : ℕ) (name desc : List ℕ) → text_at pool n ≡ Some name → text_at pool d ≡ Some desc → is_spelled pool x y n d ≡ is_pair x y name desc
+pub spelled_at : (pool : List PoolEntry) (x y : List ℕ) (n d : ℕ) (name desc : List ℕ) → text_at pool n ≡ Some name → text_at pool d ≡ Some desc → is_spelled pool x y n d ≡ (bytes_eq x name && bytes_eq y desc)
 unfolding is_spelled
 spelled_at pool x y n d name desc a b = λ i. spells_at (bytes_eq x) pool n name a i && spells_at (bytes_eq y) pool d desc b i
 

@@ -5,10 +5,13 @@ pub mod LegalTests
 pub mod Members
 pub mod Rules
 pub mod Form
+pub mod TextNumbers
+pub mod Told
 pub mod Seen
 pub mod BodyNames
 pub mod BodyOperands
 pub mod BodyStarts
 pub mod Offsets
 pub mod BodyMaps
+pub mod TextForms
 pub mod BodyText

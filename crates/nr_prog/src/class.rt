@@ -5,11 +5,14 @@ ghost use Rattle.nr_base.specs.Clauses.{GivesWhole};
 ghost use Rattle.nr_prog.specs.Faults.{is_free};
 ghost use Rattle.nr_prog.specs.Form.{IsFormed, IsWithinBounds, class_of};
 ghost use Rattle.nr_prog.specs.Pool.{IsText, entry_at, text_at};
+ghost use Rattle.nr_prog.specs.TextForms.{form_at};
 
 use crate::fault::FormFault;
 use crate::form::check_form;
 use crate::parts::ClassParts;
-use crate::pool::{PoolEntry, entry, text};
+use crate::pool::{PoolEntry, entry, form, text};
+use crate::text::TextForm;
+use nr_base::Items;
 use std::alloc::Global;
 use std::marker::Model;
 
@@ -18,6 +21,7 @@ use std::marker::Model;
 #[derive(Debug, Drop)]
 pub struct Class {
     parts: ClassParts,
+    forms: Items<Option<TextForm>>,
 }
 
 impl Model for Class {
@@ -26,12 +30,13 @@ impl Model for Class {
     ghost use Rattle.nr_prog.specs.Form.{IsWithinBounds};
     ghost use Rattle.nr_prog.specs.Pool.{IsText};
     ghost use Rattle.nr_prog.specs.Rules.{form_fault};
+    ghost use Rattle.nr_prog.specs.TextForms.{forms_of};
 
     ghost Value = { ClassParts };
 
     ghost view = { λ c. c.parts };
 
-    ghost invariant = { λ c. (form_fault c.parts ≡ None) × IsWithinBounds c.parts × All IsText c.parts.pool };
+    ghost invariant = { λ c. (form_fault c.parts ≡ None) × IsWithinBounds c.parts × All IsText c.parts.pool × (c.forms ≡ forms_of c.parts.pool) };
 }
 
 impl Class {
@@ -50,8 +55,8 @@ impl Class {
         ensures only { IsFormed parts → GivesWhole is_free result (Ok parts) }
         ensures exact { GivesWhole is_free result (class_of parts) }
     {
-        check_form(alloc, &parts)?;
-        Ok(Class { parts })
+        let forms = check_form(alloc, &parts)?;
+        Ok(Class { parts, forms })
     }
 
     /// The parts of the class.
@@ -77,5 +82,13 @@ impl Class {
         ensures short { IfSome result (λ bytes. length bytes.now < 2 ^ 16) }
     {
         text(self.parts.pool.as_slice(), index)
+    }
+
+    /// What the text at an index spells, where one stands there (JVM Specification 4.4.7).
+    #[tactic(auto, using(crate::proofs::FormTests::listed_at))]
+    pub fn form(&self, index: u16) -> Option<&TextForm>
+        ensures { option_copied result ≡ form_at self.now.pool index }
+    {
+        form(self.forms.as_slice(), index)
     }
 }

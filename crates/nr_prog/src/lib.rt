@@ -9,6 +9,7 @@ mod form;
 mod member;
 mod parts;
 mod pool;
+mod text;
 
 pub use body::{Args, Body, FrameMap, Instr, Loaded, MapType};
 pub use class::Class;
@@ -16,6 +17,7 @@ pub use fault::FormFault;
 pub use member::{Code, Field, Handler, Method};
 pub use parts::ClassParts;
 pub use pool::PoolEntry;
+pub use text::{MethodForm, TextForm};
 
 #[cfg(test)]
 mod tests;

@@ -1,9 +1,11 @@
 //! The constant pool.
 
 mod entries;
+mod view;
 
-pub use entries::{entry, text};
+pub use entries::{entry, form, number, text};
 use nr_base::Items;
+pub use view::Pool;
 
 /// An entry of the constant pool (JVM Specification 4.4). Its numbers are indices of the pool, from 1.
 #[derive(Debug, Drop, PartialEq, Eq)]

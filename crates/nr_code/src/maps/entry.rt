@@ -1,14 +1,15 @@
 //! The frame at a method's entry (JVM Specification 4.10.1.6).
 
-ghost use Rattle.std.specs.Prelude.{◌≡◌, ◌<◌, ◌^◌, IfOk, IsOkUnless, length, codes, map};
+ghost use Rattle.std.specs.Prelude.{◌≡◌, IfOk, IsOkUnless, codes, option_copied};
 ghost use Rattle.std.specs.Str.{bytes_eq};
-ghost use Rattle.nr_base.specs.DescReading.{method_of};
 ghost use Rattle.nr_prog.specs.Members.{spells};
-ghost use Rattle.nr_prog.specs.BodyMaps.{base_is, this_type as this_type_of, type_of as type_of_desc};
-ghost use Rattle.nr_code.specs.MapReading.{entry_of, params_of, receiver_of, types_of};
+ghost use Rattle.nr_prog.specs.BodyMaps.{base_is, this_type as this_type_of};
+ghost use Rattle.nr_prog.specs.TextForms.{form_at};
+ghost use Rattle.nr_code.specs.EntryForms.{listed_params};
+ghost use Rattle.nr_code.specs.MapReading.{entry_of, params_of, receiver_of};
 
-use super::copies::copied_desc;
-use nr_base::{Desc, DescBase, DescFault, Items, MethodDesc};
+use super::copies::copied;
+use nr_base::{Desc, DescBase, Items, Shared};
 use nr_instrs::{CodeFault, class_type};
 use nr_prog::{Class, MapType, Method};
 use std::alloc::Global;
@@ -16,52 +17,24 @@ use std::alloc::Global;
 // A method without a receiver (JVM Specification, table 4.6-A).
 const STATIC: u16 = 0x0008;
 
-/// The type of a parameter.
-fn type_of(desc: &Desc) -> Result<MapType, CodeFault>
-    ensures kind { IfOk result (λ kind. kind ≡ type_of_desc desc.now) }
-    ensures err { IsOkUnless result CodeFault.NoMemory }
+/// The types of the parameters of a method with the descriptor at an index, where one stands there.
+fn params_in(class: &Class, desc: u16) -> Option<&[MapType]>
+    ensures { option_copied result ≡ listed_params (form_at class.now.pool desc) }
 {
-    if desc.dims != 0 {
-        return Ok(MapType::Object(copied_desc(desc)?));
-    }
-    match &desc.base {
-        DescBase::Long => Ok(MapType::Long),
-        DescBase::Object(_) => Ok(MapType::Object(copied_desc(desc)?)),
-        _ => Ok(MapType::Int),
-    }
-}
-
-fn types(alloc: Global, params: &[Desc]) -> Result<Items<MapType>, CodeFault>
-    ensures types { IfOk result (λ types. types ≡ map type_of_desc params.now) }
-    ensures err { IsOkUnless result CodeFault.NoMemory }
-{
-    let mut types = Items::new(alloc);
-    for param in params {
-        types.push(type_of(param)?)?;
-    }
-    Ok(types)
-}
-
-fn types_in(alloc: Global, bytes: &[u8]) -> Result<Items<MapType>, CodeFault>
-    requires { length bytes.now < 2 ^ 16 }
-    ensures types { IfOk result (λ types. types ≡ types_of (method_of bytes.now)) }
-    ensures err { IsOkUnless result CodeFault.NoMemory }
-{
-    match MethodDesc::read(alloc, bytes) {
-        Ok(desc) => types(alloc, desc.params.as_slice()),
-        Err(DescFault::NoMemory) => Err(CodeFault::NoMemory),
-        Err(_) => Ok(Items::new(alloc)),
+    match &class.form(desc)?.method {
+        Some(method) => Some(method.params.as_slice()),
+        None => None,
     }
 }
 
 /// The types of the parameters. Each method of a class has a descriptor.
-#[tactic(auto, unfolding(crate::specs::MapReading::params_of))]
+#[tactic(auto, using(crate::proofs::Params::params_told, crate::proofs::Params::params_untold))]
 fn params(alloc: Global, class: &Class, method: &Method) -> Result<Items<MapType>, CodeFault>
     ensures types { IfOk result (λ types. types ≡ params_of class.now method.now) }
     ensures err { IsOkUnless result CodeFault.NoMemory }
 {
-    match class.text(method.desc) {
-        Some(bytes) => types_in(alloc, bytes),
+    match params_in(class, method.desc) {
+        Some(params) => copied(alloc, params),
         None => Ok(Items::new(alloc)),
     }
 }
@@ -85,13 +58,18 @@ fn is_initialiser(class: &Class, method: &Method) -> bool
     }
 }
 
-fn this_type(class: &Class, method: &Method, this: Desc) -> MapType
-    ensures { result ≡ this_type_of class.now method.now this }
+fn this_type(
+    class: &Class,
+    method: &Method,
+    this: &Shared<Desc>,
+) -> Result<MapType, CodeFault>
+    ensures kind { IfOk result (λ kind. kind ≡ this_type_of class.now method.now this.now) }
+    ensures err { IsOkUnless result CodeFault.NoMemory }
 {
-    if is_initialiser(class, method) && !is_object(&this.base) {
-        MapType::UninitThis
+    if is_initialiser(class, method) && !is_object(&this.get().base) {
+        Ok(MapType::UninitThis)
     } else {
-        MapType::Object(this)
+        Ok(MapType::Object(this.share()?))
     }
 }
 
@@ -105,8 +83,8 @@ fn receiver(alloc: Global, class: &Class, method: &Method) -> Result<Items<MapTy
     if method.flags & STATIC != 0 {
         return Ok(types);
     }
-    if let Some(this) = class_type(alloc, class, class.parts().this_class)? {
-        types.push(this_type(class, method, this))?;
+    if let Some(this) = class_type(class, class.parts().this_class) {
+        types.push(this_type(class, method, this)?)?;
     }
     Ok(types)
 }

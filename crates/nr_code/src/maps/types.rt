@@ -1,32 +1,32 @@
 //! The types of frame maps (JVM Specification 4.7.4, verification_type_info).
 
-ghost use Rattle.std.specs.Prelude.{◌≡◌, [], IfOk, IsOkUnless, option_copied};
+ghost use Rattle.std.specs.Prelude.{◌≡◌, [], option_copied};
 ghost use Rattle.nr_base.specs.Clauses.{Gives, GivesBy};
 ghost use Rattle.nr_base.specs.Reader.{onto, times};
 ghost use Rattle.nr_instrs.specs.Faults.{is_free};
 ghost use Rattle.nr_code.specs.MapReading.{class_given, class_type_at, counted_types_at, map_type_at, map_types_at, type_by_at, uninit_at};
 
-use nr_base::{Cur, Desc, Items};
+use nr_base::{Cur, Desc, Items, Shared};
 use nr_instrs::{CodeFault, Starts, class_type};
 use nr_prog::{Class, MapType};
 use std::alloc::Global;
 
 #[tactic(auto, unfolding(crate::specs::MapReading::class_given, nr_base::specs::Reader::bind, nr_base::specs::Reader::pure, nr_base::specs::Reader::refuse, nr_base::specs::Reader::choose, nr_base::specs::Reader::from, nr_base::specs::Reader::with_fault))]
-fn object(at: u32, desc: Option<Desc>, cur: &mut Cur) -> Result<MapType, CodeFault>
-    ensures { Gives is_free result cur.new (class_given at desc cur.old) }
+fn object(at: u32, desc: Option<&Shared<Desc>>, cur: &mut Cur) -> Result<MapType, CodeFault>
+    ensures { Gives is_free result cur.new (class_given at (option_copied desc.entry) cur.old) }
 {
     match desc {
-        Some(desc) => Ok(MapType::Object(desc)),
+        Some(desc) => Ok(MapType::Object(desc.share()?)),
         None => Err(CodeFault::MapTag(at)),
     }
 }
 
 #[tactic(auto, unfolding(crate::specs::MapReading::class_type_at, crate::specs::MapReading::u2_at, nr_base::specs::Reader::bind, nr_base::specs::Reader::pure, nr_base::specs::Reader::refuse, nr_base::specs::Reader::choose, nr_base::specs::Reader::from, nr_base::specs::Reader::with_fault))]
-fn read_object(alloc: Global, class: &Class, at: u32, cur: &mut Cur) -> Result<MapType, CodeFault>
+fn read_object(class: &Class, at: u32, cur: &mut Cur) -> Result<MapType, CodeFault>
     ensures { Gives is_free result cur.new (class_type_at class.now.pool at cur.old) }
 {
     let index = cur.u16()?;
-    object(at, class_type(alloc, class, index)?, cur)
+    object(at, class_type(class, index), cur)
 }
 
 #[tactic(auto, unfolding(crate::specs::MapReading::uninit_at, crate::specs::MapReading::u2_at, nr_base::specs::Reader::bind, nr_base::specs::Reader::pure, nr_base::specs::Reader::refuse, nr_base::specs::Reader::choose, nr_base::specs::Reader::from, nr_base::specs::Reader::with_fault))]
@@ -43,7 +43,6 @@ fn read_uninit(starts: &Starts, at: u32, cur: &mut Cur) -> Result<MapType, CodeF
 
 #[tactic(auto, unfolding(crate::specs::MapReading::type_by_at, nr_base::specs::Reader::bind, nr_base::specs::Reader::pure, nr_base::specs::Reader::refuse, nr_base::specs::Reader::choose, nr_base::specs::Reader::from, nr_base::specs::Reader::with_fault))]
 fn read_by_tag(
-    alloc: Global,
     class: &Class,
     starts: &Starts,
     at: u32,
@@ -58,7 +57,7 @@ fn read_by_tag(
         4 => Ok(MapType::Long),
         5 => Ok(MapType::Null),
         6 => Ok(MapType::UninitThis),
-        7 => read_object(alloc, class, at, cur),
+        7 => read_object(class, at, cur),
         8 => read_uninit(starts, at, cur),
         _ => Err(CodeFault::MapTag(at)),
     }
@@ -66,22 +65,16 @@ fn read_by_tag(
 
 /// A type.
 #[tactic(auto, unfolding(crate::specs::MapReading::map_type_at, crate::specs::MapReading::u1_at, nr_base::specs::Reader::bind, nr_base::specs::Reader::pure, nr_base::specs::Reader::refuse, nr_base::specs::Reader::choose, nr_base::specs::Reader::from, nr_base::specs::Reader::with_fault))]
-pub fn read_type(
-    alloc: Global,
-    class: &Class,
-    starts: &Starts,
-    cur: &mut Cur,
-) -> Result<MapType, CodeFault>
+pub fn read_type(class: &Class, starts: &Starts, cur: &mut Cur) -> Result<MapType, CodeFault>
     ensures { Gives is_free result cur.new (map_type_at class.now.pool starts.now cur.old) }
 {
     let at = cur.at();
     let tag = cur.u8()?;
-    read_by_tag(alloc, class, starts, at, tag, cur)
+    read_by_tag(class, starts, at, tag, cur)
 }
 
 #[tactic(auto, unfolding(nr_base::specs::Reader::onto, nr_base::specs::Reader::bind, nr_base::specs::Reader::pure, nr_base::specs::Reader::refuse, nr_base::specs::Reader::choose, nr_base::specs::Reader::from, nr_base::specs::Reader::with_fault))]
 fn type_onto(
-    alloc: Global,
     class: &Class,
     starts: &Starts,
     cur: &mut Cur,
@@ -89,7 +82,7 @@ fn type_onto(
 ) -> Result<(), CodeFault>
     ensures { GivesBy is_free (λ _. types.new) result cur.new (onto (map_type_at class.now.pool starts.now) types.old cur.old) }
 {
-    types.push(read_type(alloc, class, starts, cur)?)?;
+    types.push(read_type(class, starts, cur)?)?;
     Ok(())
 }
 
@@ -106,7 +99,7 @@ pub fn read_types(
 {
     let mut types = Items::new(alloc);
     for _ in 0..count {
-        type_onto(alloc, class, starts, cur, &mut types)?;
+        type_onto(class, starts, cur, &mut types)?;
     }
     Ok(types)
 }

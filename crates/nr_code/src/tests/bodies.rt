@@ -59,7 +59,7 @@ fn list_desc(out: &mut String, desc: &Desc) -> Result<(), AllocError> {
 fn list_types(out: &mut String, types: &[MapType]) -> Result<(), AllocError> {
     for map_type in types {
         match map_type {
-            MapType::Object(desc) => list_desc(out, desc)?,
+            MapType::Object(desc) => list_desc(out, desc.get())?,
             other => write!(out, " {other:?}")?,
         }
     }

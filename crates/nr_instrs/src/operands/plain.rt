@@ -13,7 +13,6 @@ use crate::number::{read_i8, read_i16, read_u8, read_u16};
 use nr_base::Cur;
 use nr_optable::{Row, Shape, row};
 use nr_prog::{Args, Class};
-use std::alloc::Global;
 
 #[tactic(auto, unfolding(crate::specs::OperandReading::local_at, nr_base::specs::Reader::bind, nr_base::specs::Reader::pure, nr_base::specs::Reader::refuse, nr_base::specs::Reader::choose, nr_base::specs::Reader::from, nr_base::specs::Reader::with_fault))]
 fn read_local(at: u32, cur: &mut Cur) -> Result<Args, CodeFault>
@@ -93,7 +92,6 @@ fn read_wide(row: &Row, at: u32, cur: &mut Cur) -> Result<Args, CodeFault>
 /// The operands of an instruction that has no branch, by its shape.
 #[tactic(auto, unfolding(crate::specs::OperandReading::plain_at, nr_base::specs::Reader::bind, nr_base::specs::Reader::pure, nr_base::specs::Reader::refuse, nr_base::specs::Reader::choose, nr_base::specs::Reader::from, nr_base::specs::Reader::with_fault))]
 pub fn read_plain(
-    alloc: Global,
     class: &Class,
     row: &Row,
     at: u32,
@@ -106,12 +104,12 @@ pub fn read_plain(
         Shape::L1 => read_local(at, cur),
         Shape::S1 => read_byte(at, cur),
         Shape::S2 => read_short(at, cur),
-        Shape::P1 => read_short_index(alloc, class, row, at, cur),
-        Shape::P2 => read_index(alloc, class, row, at, cur),
+        Shape::P1 => read_short_index(class, row, at, cur),
+        Shape::P2 => read_index(class, row, at, cur),
         Shape::Inc => read_increment(at, cur),
         Shape::Prim => read_primitive(row, at, cur),
-        Shape::Itf => read_interface(alloc, class, at, cur),
-        Shape::Mul => read_dims(alloc, class, at, cur),
+        Shape::Itf => read_interface(class, at, cur),
+        Shape::Mul => read_dims(class, at, cur),
         Shape::Wide => read_wide(row, at, cur),
         _ => Ok(Args::Empty),
     }

@@ -1,6 +1,6 @@
 //! Operands that name an entry of the constant pool (JVM Specification 6.5).
 
-ghost use Rattle.std.specs.Prelude.{◌≡◌, IfOk, IsOkUnless, if◌then◌else◌};
+ghost use Rattle.std.specs.Prelude.{◌≡◌, if◌then◌else◌};
 ghost use Rattle.std.specs.Int.{w8, w16};
 ghost use Rattle.nr_base.specs.Clauses.{Gives};
 ghost use Rattle.nr_prog.specs.Pool.{is_wide, names};
@@ -18,7 +18,6 @@ use crate::pool::{
 use nr_base::Cur;
 use nr_optable::{Family, Kinds, Letter, Row};
 use nr_prog::{Args, Class, PoolEntry};
-use std::alloc::Global;
 
 fn pushes_long(pushes: Kinds) -> bool
     ensures { result ≡ is_of_long pushes }
@@ -42,30 +41,28 @@ fn is_twofold(class: &Class, index: u16) -> bool
 }
 
 /// Whether the entry at an index is a constant that the instruction can push.
-fn can_push(alloc: Global, class: &Class, pushes: Kinds, index: u16) -> Result<bool, CodeFault>
-    ensures constant { IfOk result (λ constant. constant ≡ (if is_of_long pushes then names is_wide class.now.pool index else names (is_single class.now.pool) class.now.pool index)) }
-    ensures err { IsOkUnless result CodeFault.NoMemory }
+fn can_push(class: &Class, pushes: Kinds, index: u16) -> bool
+    ensures { result ≡ (if is_of_long pushes then names is_wide class.now.pool index else names (is_single class.now.pool) class.now.pool index) }
 {
     if pushes_long(pushes) {
-        Ok(is_twofold(class, index))
+        is_twofold(class, index)
     } else {
-        is_single_constant(alloc, class, index)
+        is_single_constant(class, index)
     }
 }
 
 /// Whether the instruction can name the entry at an index.
 #[tactic(auto, unfolding(crate::specs::NameTests::is_used))]
-fn can_name(alloc: Global, class: &Class, row: &Row, index: u16) -> Result<bool, CodeFault>
-    ensures used { IfOk result (λ used. used ≡ is_used class.now.pool row.now.family row.now.pushes index) }
-    ensures err { IsOkUnless result CodeFault.NoMemory }
+fn can_name(class: &Class, row: &Row, index: u16) -> bool
+    ensures { result ≡ is_used class.now.pool row.now.family row.now.pushes index }
 {
     match row.family {
-        Family::F8 => can_push(alloc, class, row.pushes, index),
-        Family::F30 | Family::F31 => is_field(alloc, class, index),
-        Family::F32 => is_method(alloc, class, index),
-        Family::F33 | Family::F37 => is_class(alloc, class, index),
-        Family::F34 => is_element_class(alloc, class, index),
-        _ => Ok(false),
+        Family::F8 => can_push(class, row.pushes, index),
+        Family::F30 | Family::F31 => is_field(class, index),
+        Family::F32 => is_method(class, index),
+        Family::F33 | Family::F37 => is_class(class, index),
+        Family::F34 => is_element_class(class, index),
+        _ => false,
     }
 }
 
@@ -85,7 +82,6 @@ fn has_in_profile(class: &Class, family: Family, index: u16) -> bool
 
 #[tactic(auto, unfolding(crate::specs::OperandReading::checked_at, nr_base::specs::Reader::bind, nr_base::specs::Reader::pure, nr_base::specs::Reader::refuse, nr_base::specs::Reader::choose, nr_base::specs::Reader::from, nr_base::specs::Reader::with_fault))]
 fn checked(
-    alloc: Global,
     class: &Class,
     row: &Row,
     at: u32,
@@ -94,7 +90,7 @@ fn checked(
 ) -> Result<Args, CodeFault>
     ensures { Gives is_free result cur.new (checked_at class.now.pool row.now at index cur.old) }
 {
-    if !can_name(alloc, class, row, index)? {
+    if !can_name(class, row, index) {
         return Err(CodeFault::PoolUse(at));
     }
     if !has_in_profile(class, row.family, index) {
@@ -106,7 +102,6 @@ fn checked(
 /// An index of one byte.
 #[tactic(auto, unfolding(crate::specs::OperandReading::index_at, nr_base::specs::Reader::bind, nr_base::specs::Reader::pure, nr_base::specs::Reader::refuse, nr_base::specs::Reader::choose, nr_base::specs::Reader::from, nr_base::specs::Reader::with_fault))]
 pub fn read_short_index(
-    alloc: Global,
     class: &Class,
     row: &Row,
     at: u32,
@@ -115,13 +110,12 @@ pub fn read_short_index(
     ensures { Gives is_free result cur.new (index_at w8 class.now.pool row.now at cur.old) }
 {
     let index = read_u8(cur, at)?;
-    checked(alloc, class, row, at, u16::from(index), cur)
+    checked(class, row, at, u16::from(index), cur)
 }
 
 /// An index of two bytes.
 #[tactic(auto, unfolding(crate::specs::OperandReading::index_at, nr_base::specs::Reader::bind, nr_base::specs::Reader::pure, nr_base::specs::Reader::refuse, nr_base::specs::Reader::choose, nr_base::specs::Reader::from, nr_base::specs::Reader::with_fault))]
 pub fn read_index(
-    alloc: Global,
     class: &Class,
     row: &Row,
     at: u32,
@@ -130,13 +124,12 @@ pub fn read_index(
     ensures { Gives is_free result cur.new (index_at w16 class.now.pool row.now at cur.old) }
 {
     let index = read_u16(cur, at)?;
-    checked(alloc, class, row, at, index, cur)
+    checked(class, row, at, index, cur)
 }
 
 /// The operands of invokeinterface.
 #[tactic(auto, unfolding(crate::specs::OperandReading::interface_at, nr_base::specs::Reader::bind, nr_base::specs::Reader::pure, nr_base::specs::Reader::refuse, nr_base::specs::Reader::choose, nr_base::specs::Reader::from, nr_base::specs::Reader::with_fault))]
 pub fn read_interface(
-    alloc: Global,
     class: &Class,
     at: u32,
     cur: &mut Cur,
@@ -146,7 +139,7 @@ pub fn read_interface(
     let index = read_u16(cur, at)?;
     let count = read_u8(cur, at)?;
     let zero = read_u8(cur, at)?;
-    if !is_interface_method(alloc, class, count, index)? || zero != 0 {
+    if !is_interface_method(class, count, index) || zero != 0 {
         return Err(CodeFault::PoolUse(at));
     }
     Ok(Args::Pool(index))
@@ -154,12 +147,12 @@ pub fn read_interface(
 
 /// The operands of multianewarray.
 #[tactic(auto, unfolding(crate::specs::OperandReading::dims_at, nr_base::specs::Reader::bind, nr_base::specs::Reader::pure, nr_base::specs::Reader::refuse, nr_base::specs::Reader::choose, nr_base::specs::Reader::from, nr_base::specs::Reader::with_fault))]
-pub fn read_dims(alloc: Global, class: &Class, at: u32, cur: &mut Cur) -> Result<Args, CodeFault>
+pub fn read_dims(class: &Class, at: u32, cur: &mut Cur) -> Result<Args, CodeFault>
     ensures { Gives is_free result cur.new (dims_at class.now.pool at cur.old) }
 {
     let index = read_u16(cur, at)?;
     let dims = read_u8(cur, at)?;
-    if !is_array_class(alloc, class, index, dims)? {
+    if !is_array_class(class, index, dims) {
         return Err(CodeFault::PoolUse(at));
     }
     Ok(Args::Dims(index, dims))

@@ -1,6 +1,6 @@
 //! Frame maps.
 
-use nr_base::{Desc, Items};
+use nr_base::{Desc, Items, Shared};
 
 /// The type of a local variable or an operand (JVM Specification 4.7.4, verification_type_info; the
 /// project leaves out float and double).
@@ -15,8 +15,8 @@ pub enum MapType {
     UninitThis,
     /// The object that the `new` at this offset makes, before it is initialised.
     Uninit(u16),
-    /// A class, an interface or an array.
-    Object(Desc),
+    /// A class, an interface or an array. Types of one name share it.
+    Object(Shared<Desc>),
 }
 
 /// The types at an offset of the code (JVM Specification 4.7.4, stack_map_frame), as a whole frame.

@@ -8,7 +8,7 @@ ghost use Rattle.nr_prog.specs.Rules.{constant_fault};
 
 use crate::fault::FormFault;
 use crate::member::Field;
-use crate::pool::{PoolEntry, entry};
+use crate::pool::{Pool, PoolEntry};
 
 /// The kind of a constant value (JVM Specification 4.7.2).
 #[derive(Clone, Copy, Debug, PartialEq, Eq)]
@@ -31,10 +31,10 @@ fn kind_of(desc: &[u8]) -> Option<ConstantKind>
     }
 }
 
-fn names_constant(pool: &[PoolEntry], index: u16, kind: ConstantKind) -> bool
+fn names_constant(pool: &Pool, index: u16, kind: ConstantKind) -> bool
     ensures { result ≡ names (is_of_kind kind) pool.now index }
 {
-    match entry(pool, usize::from(index)) {
+    match pool.entry(usize::from(index)) {
         Some(PoolEntry::Integer(_)) => kind == ConstantKind::Integer,
         Some(PoolEntry::Long(_)) => kind == ConstantKind::Long,
         Some(PoolEntry::Str(_)) => kind == ConstantKind::Str,
@@ -45,7 +45,7 @@ fn names_constant(pool: &[PoolEntry], index: u16, kind: ConstantKind) -> bool
 /// Whether the index of a constant value, if there is one, names an entry of the kind that a field of
 /// this descriptor takes (JVM Specification 4.7.2).
 #[tactic(auto, unfolding(crate::specs::Rules::constant_fault, crate::specs::Members::is_constant_formed, crate::specs::Members::spells))]
-pub fn check_constant(pool: &[PoolEntry], field: &Field, desc: &[u8]) -> Result<(), FormFault>
+pub fn check_constant(pool: &Pool, field: &Field, desc: &[u8]) -> Result<(), FormFault>
     requires { text_at pool.now field.now.desc ≡ Some desc.now }
     ensures { Finds result (constant_fault pool.now field.now.desc field.now.constant) }
 {

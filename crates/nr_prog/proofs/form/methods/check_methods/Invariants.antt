@@ -3,4 +3,4 @@ use Rattle.nr_prog.proofs.Members.{MethodWalk}
 use Rattle.nr_prog.proofs.form.methods.check_methods.Given as goal
 
 abbrev pub invariant-loop-place : goal.invariant-loop-place
-invariant-loop-place l = MethodWalk l.pool l.methods l.place (has l.seen)
+invariant-loop-place l = MethodWalk l.pool l.methods l.place (has l.pool l.seen)

@@ -1,6 +1,6 @@
 use Rattle.std.proofs.Common.{sym, ◌∙◌}
-use Rattle.nr_instrs.proofs.Names.{is_class, is_no_class, is_no_name}
-use Rattle.nr_instrs.proofs.pool.class_name.Goals as goal
+use Rattle.nr_prog.proofs.ClassTexts.{is_class, is_no_class, is_no_name}
+use Rattle.nr_prog.proofs.form.legal.class_name.Goals as goal
 
 pub returns-in_default-clause-name : goal.returns-in_default-clause-name
 returns-in_default-clause-name c = is_no_name c.args.bytes.now (sym c.in_default.is ∙ c.in_ok-name.ensures.name)
