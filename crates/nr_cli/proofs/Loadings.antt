@@ -175,10 +175,10 @@ pub reads_on : (dir name : List ℕ) (files told : List ToldFile) (paths : List 
     → now ≤ before + 1 → before + reads dir files (bytes_of (drop i paths)) ≤ most → now + reads dir files (bytes_of (drop (i + 1) paths)) ≤ most
 reads_on dir name files told paths i path kept more len next before now most lt is named same n call so_far =
     let read : loaded_at (string_bytes path) (file_at dir (string_bytes path) files) ≡ Ok (n.class, n.len) =
-        subst (λ z. loaded_at (string_bytes path) (file_at dir (string_bytes path) z) ≡ Ok (n.class, n.len)) same
-        (subst (λ z. loaded_at z (file_at dir z told) ≡ Ok (n.class, n.len)) named n.is) in
+    subst (λ z. loaded_at (string_bytes path) (file_at dir (string_bytes path) z) ≡ Ok (n.class, n.len)) same
+    (subst (λ z. loaded_at z (file_at dir z told) ≡ Ok (n.class, n.len)) named n.is) in
     let one : reads dir files (bytes_of (drop i paths)) ≡ 1 + reads dir files (bytes_of (drop (i + 1) paths)) =
-        ap (λ z. reads dir files (bytes_of z)) (rest_at paths i path lt is) ∙ reads_ok dir files (string_bytes path) (bytes_of (drop (i + 1) paths)) (n.class, n.len) read in
+    ap (λ z. reads dir files (bytes_of z)) (rest_at paths i path lt is) ∙ reads_ok dir files (string_bytes path) (bytes_of (drop (i + 1) paths)) (n.class, n.len) read in
     omega arith
 
 -- one more file was read, and it is the last
@@ -187,5 +187,5 @@ pub reads_last : (dir : List ℕ) (files : List ToldFile) (paths : List (String 
 reads_last dir files paths i path before now most lt is call so_far =
     let rest = reads dir files (bytes_of (drop (i + 1) paths)) in
     let one : reads dir files (bytes_of (drop i paths)) ≡ 1 + cond (is_ok (loaded_at (string_bytes path) (file_at dir (string_bytes path) files))) rest 0 =
-        ap (λ z. reads dir files (bytes_of z)) (rest_at paths i path lt is) in
+    ap (λ z. reads dir files (bytes_of z)) (rest_at paths i path lt is) in
     omega arith

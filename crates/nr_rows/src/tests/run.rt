@@ -323,7 +323,11 @@ fn expect_calls<R: AllocGlobal + Abort>(
     calls: (u64, u64, u64),
 ) {
     let class = M_CLASS.as_slice();
-    let files = [("L.class", class), ("M.class", [].as_slice()), ("N.class", class)];
+    let files = [
+        ("L.class", class),
+        ("M.class", [].as_slice()),
+        ("N.class", class),
+    ];
     let found = run_over(rt, words, &files, scene);
     assert_eq!(rt; (found.status, found.calls), (status, calls), "{words:?}");
 }
@@ -344,7 +348,10 @@ fn calls_that_are_made(rt: HostRuntime) {
     expect_calls(&rt, &run, sound, 4, (3, 0, 1));
     // nothing is called after a call that failed
     for call in 1..4 {
-        let scene = Scene { folder: &[call], ..sound };
+        let scene = Scene {
+            folder: &[call],
+            ..sound
+        };
         expect_calls(&rt, &run, scene, 3, (call, 0, 1));
     }
     expect_calls(&rt, &run, Scene { err: &[1], ..sound }, 11, (3, 0, 1));
