@@ -33,8 +33,8 @@ pub fn nrmi<F: Folder, W: Wire, O: Sink, E: Sink>(
     ensures wire { wire.new ≡ wire.old }
     ensures files { F.Tells → F.files folder.new ≡ F.files folder.old }
 
-    // Which calls are made: the folder is listed once and read up to the first file that is refused, and
-    // a sink is written to once, at most.
+    // How many calls are made at most: one that lists the folder and one for each file up to the first that
+    // is refused, and one on each sink.
     ensures calls { F.Tells
         → CallsAtMost (calls_of (command_of (map (λ w. w.now) words.now)) (F.files folder.old))
         (F.calls folder.old) (F.calls folder.new) }
