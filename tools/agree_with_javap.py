@@ -5,7 +5,7 @@ Usage: tools/agree_with_javap.py CLASS_FILE..
 
 Compile the examples first: examples/compile.sh FOLDER. Each file is loaded by a small program over
 nr_code, which is built in a copy of the crates (`rt try`, nothing is proved), and by javap. Where javap
-is missing, it says so and ends well. Files that aren't loaded are a failure.
+is missing, it says so and ends well. No file, files without a method, and files that aren't loaded are failures.
 """
 import os
 import re
@@ -164,10 +164,15 @@ def from_program(lines):
 
 
 def main():
+    paths = [os.path.abspath(path) for path in sys.argv[1:]]
+    if not paths:
+        sys.exit('no class file is named: ' + __doc__.split('\n\n')[1])
+    for path in paths:
+        if not os.path.isfile(path):
+            sys.exit('no file: ' + path)
     if not shutil.which('javap'):
         print('javap is missing: nothing was compared')
         return
-    paths = [os.path.abspath(path) for path in sys.argv[1:]]
     printed = copied_crates.run('list_code', 'nr_base nr_optable nr_prog nr_outside nr_code', PROGRAM, paths)
     told = from_program(line for line in printed if re.match(r'(file|refused|method|\d+ \d+)', line))
     methods = instructions = 0
@@ -183,6 +188,8 @@ def main():
         methods += len(want)
         instructions += sum(map(len, want))
         codes.update(i[1] for m in want for i in m)
+    if not instructions:
+        sys.exit('no instruction was compared')
     print('%d files, %d methods, %d instructions, %d codes: all agree' % (len(paths), methods, instructions, len(codes)))
 
 

@@ -1,6 +1,6 @@
 -- Class files that are read one after the other.
 use Rattle.std.proofs.Common.{◌≡◌, ◌⊎◌, ℕ, ◌+◌, ◌<◌, ◌≤◌, Bool, true, false, cond, ◌&&◌, List, [], ◌∷◌, ◌++◌, length, take, min, Result, Ok, Err, refl, sym, ap, subst, ◌∙◌, arith, inl, inr, leb, append_assoc, add_assoc, add-one, drop-cons, suc, map, drop, get_or, None}
-use Rattle.std.specs.Prelude.{slice_get, ◌-◌, is_some}
+use Rattle.std.specs.Prelude.{slice_get, ◌-◌, is_some, is_ok}
 use Rattle.std.specs.String.{string_bytes}
 use Rattle.std.specs.declared.alloc.Global.{Global}
 use Rattle.std.specs.declared.string.String.{String}
@@ -10,7 +10,7 @@ use Rattle.nr_outside.specs.Folder.{ToldFile, file_at}
 use Rattle.nr_prog.specs.declared.parts.ClassParts.{ClassParts}
 use Rattle.nr_cli.specs.Words.{Command}
 use Rattle.nr_cli.specs.Loading.{kept_with, IsNext, IsLoaded}
-use Rattle.nr_cli.specs.Plan.{loaded_at, and_then_all, all_loaded, judged, last_end, folder_end, loaded_end, are_listed}
+use Rattle.nr_cli.specs.Plan.{loaded_at, and_then_all, all_loaded, judged, last_end, folder_end, loaded_end, reads, are_listed}
 use Rattle.nr_cli.specs.declared.ending.End.{End}
 use Rattle.nr_cli.specs.declared.ending.End.TheVariants.{Memory, Folder}
 
@@ -162,3 +162,30 @@ listed_here dir name files told paths i path lt is named same e nothing =
     let some = (both (is_some (file_at dir (string_bytes path) files)) _ (subst (λ z. are_listed dir files (bytes_of z) ≡ true) (rest_at paths i path lt is) e)).0 in
     let no : is_some (file_at dir (string_bytes path) files) ≡ false = ap is_some none in
     absurd cc
+
+-- ---- how many calls are made on the folder
+
+reads_ok : (dir : List ℕ) (files : List ToldFile) (path : List ℕ) (after : List (List ℕ)) (x : ClassParts × ℕ)
+    → loaded_at path (file_at dir path files) ≡ Ok x → reads dir files (path ∷ after) ≡ 1 + reads dir files after
+reads_ok dir files path after x e = ap (λ z. 1 + cond (is_ok z) (reads dir files after) 0) e
+
+-- one more file was read, and it wasn't refused
+pub reads_on : (dir name : List ℕ) (files told : List ToldFile) (paths : List (String Global)) (i : ℕ) (path : String Global) (kept more : List ClassParts) (len next : ℕ) (before now most : ℕ)
+    → i < length paths → path ≡ get_or paths i path → name ≡ string_bytes path → told ≡ files → IsNext (loaded_at name (file_at dir name told)) kept len more next
+    → now ≤ before + 1 → before + reads dir files (bytes_of (drop i paths)) ≤ most → now + reads dir files (bytes_of (drop (i + 1) paths)) ≤ most
+reads_on dir name files told paths i path kept more len next before now most lt is named same n call so_far =
+    let read : loaded_at (string_bytes path) (file_at dir (string_bytes path) files) ≡ Ok (n.class, n.len) =
+    subst (λ z. loaded_at (string_bytes path) (file_at dir (string_bytes path) z) ≡ Ok (n.class, n.len)) same
+    (subst (λ z. loaded_at z (file_at dir z told) ≡ Ok (n.class, n.len)) named n.is) in
+    let one : reads dir files (bytes_of (drop i paths)) ≡ 1 + reads dir files (bytes_of (drop (i + 1) paths)) =
+    ap (λ z. reads dir files (bytes_of z)) (rest_at paths i path lt is) ∙ reads_ok dir files (string_bytes path) (bytes_of (drop (i + 1) paths)) (n.class, n.len) read in
+    omega arith
+
+-- one more file was read, and it is the last
+pub reads_last : (dir : List ℕ) (files : List ToldFile) (paths : List (String Global)) (i : ℕ) (path : String Global) (before now most : ℕ)
+    → i < length paths → path ≡ get_or paths i path → now ≤ before + 1 → before + reads dir files (bytes_of (drop i paths)) ≤ most → now ≤ most
+reads_last dir files paths i path before now most lt is call so_far =
+    let rest = reads dir files (bytes_of (drop (i + 1) paths)) in
+    let one : reads dir files (bytes_of (drop i paths)) ≡ 1 + cond (is_ok (loaded_at (string_bytes path) (file_at dir (string_bytes path) files))) rest 0 =
+    ap (λ z. reads dir files (bytes_of z)) (rest_at paths i path lt is) in
+    omega arith

@@ -1,5 +1,5 @@
 -- What the program does with its words over a folder's files. The project's own rules.
-use Rattle.std.specs.Prelude.{◌≢◌, ℕ, ◌+◌, ◌-◌, List, [], ◌∷◌, length, slice_get, Option, None, Some, Result, Ok, Err, cond, nat_le, Bool, true, ◌&&◌, is_some}
+use Rattle.std.specs.Prelude.{◌≢◌, ℕ, ◌+◌, ◌-◌, List, [], ◌∷◌, length, slice_get, Option, None, Some, Result, Ok, Err, cond, nat_le, Bool, true, ◌&&◌, is_some, is_ok}
 use Rattle.std.specs.Str.{bytes_eq}
 use Rattle.nr_outside.specs.Folder.{ToldFile, class_paths, file_at}
 use Rattle.nr_cli.specs.Words.{Command, command_of}
@@ -74,6 +74,16 @@ and_then_all (Ok x) (Ok others) = Ok (x.0 ∷ others.0, x.1 + others.1)
 abbrev pub all_loaded : List ℕ → List ToldFile → List (List ℕ) → Result (List ClassParts × ℕ) End
 all_loaded dir files [] = Ok ([], 0)
 all_loaded dir files (path ∷ paths) = and_then_all (loaded_at path (file_at dir path files)) (all_loaded dir files paths)
+
+-- how many of the files at these paths are read: each up to the first that is refused
+abbrev pub reads : List ℕ → List ToldFile → List (List ℕ) → ℕ
+reads dir files [] = 0
+reads dir files (path ∷ paths) = 1 + cond (is_ok (loaded_at path (file_at dir path files))) (reads dir files paths) 0
+
+-- how many calls are made on the folder: it is listed, and its files are read
+abbrev pub calls_of : Option Command → List ToldFile → ℕ
+calls_of None files = 0
+calls_of (Some c) files = 1 + reads c.dir files (in_byte_order (class_paths c.dir files))
 
 -- ---- what is done with them
 

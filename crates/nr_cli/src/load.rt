@@ -1,10 +1,11 @@
 //! Reads the class files of a folder.
 ghost use Rattle.std.specs.Prelude.{◌≡◌, ◌⊎◌, ◌≤◌, ◌+◌, length, min, not, nat_le, true, None, Ok, Err, IfOk, IfErr, OnOk, map};
 ghost use Rattle.std.specs.String.{string_bytes};
+ghost use Rattle.nr_outside.specs.Calls.{CallsAtMost};
 ghost use Rattle.nr_outside.specs.Causes.{HasCause, Rose};
 ghost use Rattle.nr_outside.specs.Folder.{class_paths, file_at};
 ghost use Rattle.nr_cli.specs.Order.{in_byte_order};
-ghost use Rattle.nr_cli.specs.Plan.{fault_end, file_class, with_len, loaded_at, all_loaded, are_listed};
+ghost use Rattle.nr_cli.specs.Plan.{fault_end, file_class, with_len, loaded_at, all_loaded, reads, are_listed};
 ghost use Rattle.nr_cli.specs.Loading.{kept_with, IsNext, IsLoaded};
 
 use crate::ending::{End, LoadFault};
@@ -28,6 +29,7 @@ pub fn sorted_names<F: Folder>(
     ensures files { F.Tells → F.files folder.new ≡ F.files folder.old }
     ensures names { F.Tells → IfOk result (λ names. map string_bytes names.items
         ≡ in_byte_order (class_paths dir.now (F.files folder.old))) }
+    ensures once { F.Tells → CallsAtMost 1 (F.calls folder.old) (F.calls folder.new) }
     ensures cause { HasCause (F.faults folder.old) (F.faults folder.new) result }
 {
     let mut names = folder.names(alloc, dir)?;
@@ -103,6 +105,7 @@ fn load_class<F: Folder>(
         ⊎ (result ≡ loaded_at path.now (file_at dir.now path.now (F.files folder.old))) }
     ensures len { IfOk result (λ x. x.1 ≤ 1048577) }
     ensures words { result ≡ Err End.Words → ⊥ }
+    ensures once { F.Tells → CallsAtMost 1 (F.calls folder.old) (F.calls folder.new) }
     ensures faults { F.faults folder.old ≤ F.faults folder.new }
     ensures cause { result ≡ Err End.Folder → Rose (F.faults folder.old) (F.faults folder.new)
         ⊎ (F.Tells × (file_at dir.now path.now (F.files folder.old) ≡ None)) }
@@ -171,6 +174,7 @@ fn load_next<F: Folder>(
         ⊎ (loaded_at path.now (file_at dir.now path.now (F.files folder.old)) ≡ Err end)) }
     ensures len { OnOk result (loaded.new.len ≤ 67108865) }
     ensures words { result ≡ Err End.Words → ⊥ }
+    ensures once { F.Tells → CallsAtMost 1 (F.calls folder.old) (F.calls folder.new) }
     ensures faults { F.faults folder.old ≤ F.faults folder.new }
     ensures cause { result ≡ Err End.Folder → Rose (F.faults folder.old) (F.faults folder.new)
         ⊎ (F.Tells × (file_at dir.now path.now (F.files folder.old) ≡ None)) }
@@ -200,6 +204,9 @@ pub fn load_all<F: Folder>(
     ensures err { F.Tells → IfErr result (λ end. (end ≡ End.Memory) ⊎ (end ≡ End.Folder)
         ⊎ (all_loaded dir.now (F.files folder.old) (map string_bytes paths.now) ≡ Err end)) }
     ensures words { result ≡ Err End.Words → ⊥ }
+    ensures calls { F.Tells
+        → CallsAtMost (reads dir.now (F.files folder.old) (map string_bytes paths.now))
+        (F.calls folder.old) (F.calls folder.new) }
     ensures faults { F.faults folder.old ≤ F.faults folder.new }
     ensures cause { (F.Tells
         → are_listed dir.now (F.files folder.old) (map string_bytes paths.now) ≡ true)

@@ -1,10 +1,11 @@
 //! Does what the words say, as far as the folder goes.
 ghost use Rattle.std.specs.Prelude.{◌≡◌, ◌⊎◌, ◌≤◌, ◌-◌, length, slice_get, true, Some, None, option_copied, cond, map};
 ghost use Rattle.std.specs.String.{string_bytes};
+ghost use Rattle.nr_outside.specs.Calls.{CallsAtMost};
 ghost use Rattle.nr_outside.specs.Causes.{Rose};
 ghost use Rattle.nr_cli.specs.Thin.{has_thin_code, is_thin, is_reserved};
 ghost use Rattle.nr_cli.specs.Words.{told, command_of};
-ghost use Rattle.nr_cli.specs.Plan.{run_code, run_class, form_end, judged, last_end, folder_end, of_paths, of_command, end_of, are_listed};
+ghost use Rattle.nr_cli.specs.Plan.{run_code, run_class, form_end, judged, last_end, folder_end, of_paths, of_command, end_of, reads, calls_of, are_listed};
 
 use crate::ending::{End, LoadFault};
 use crate::load::{Loaded, is_folder_too_long, load_all, refused, sorted_names};
@@ -181,6 +182,9 @@ fn end_of_paths<F: Folder>(
     ensures end { F.Tells → (result ≡ End.Memory) ⊎ (result ≡ End.Folder)
         ⊎ (result ≡ of_paths (told command.now) (F.files folder.old) (map string_bytes paths.now)) }
     ensures words { result ≡ End.Words → ⊥ }
+    ensures calls { F.Tells
+        → CallsAtMost (reads command.now.dir.now (F.files folder.old) (map string_bytes paths.now))
+        (F.calls folder.old) (F.calls folder.new) }
     ensures faults { F.faults folder.old ≤ F.faults folder.new }
     ensures cause { (F.Tells → are_listed command.now.dir.now (F.files folder.old)
         (map string_bytes paths.now) ≡ true)
@@ -198,6 +202,8 @@ fn end_of_command<F: Folder>(alloc: Global, command: &RunCommand<'_>, folder: &m
     ensures end { F.Tells → (result ≡ End.Memory) ⊎ (result ≡ End.Folder)
         ⊎ (result ≡ of_command (Some (told command.now)) (F.files folder.old)) }
     ensures words { result ≡ End.Words → ⊥ }
+    ensures calls { F.Tells → CallsAtMost (calls_of (Some (told command.now)) (F.files folder.old))
+        (F.calls folder.old) (F.calls folder.new) }
     ensures cause { result ≡ End.Folder → Rose (F.faults folder.old) (F.faults folder.new) }
 {
     match sorted_names(alloc, folder, command.dir) {
@@ -212,6 +218,9 @@ pub fn plan<F: Folder>(alloc: Global, words: &[&str], folder: &mut F) -> End
     ensures files { F.Tells → F.files folder.new ≡ F.files folder.old }
     ensures end { F.Tells → (result ≡ End.Memory) ⊎ (result ≡ End.Folder)
         ⊎ (result ≡ end_of (map (λ w. w.now) words.now) (F.files folder.old)) }
+    ensures calls { F.Tells
+        → CallsAtMost (calls_of (command_of (map (λ w. w.now) words.now)) (F.files folder.old))
+        (F.calls folder.old) (F.calls folder.new) }
     ensures words { (result ≡ End.Words) → command_of (map (λ w. w.now) words.now) ≡ None }
     ensures no_words { command_of (map (λ w. w.now) words.now) ≡ None → (result ≡ End.Words)
         ⊎ (result ≡ End.Memory) }

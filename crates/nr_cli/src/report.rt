@@ -1,5 +1,6 @@
 //! Writes what the program has to say at its end.
 ghost use Rattle.std.specs.Prelude.{◌≡◌, ◌⊎◌, ◌≤◌, ◌++◌, codes, OnOk};
+ghost use Rattle.nr_outside.specs.Calls.{CallsAtMost};
 ghost use Rattle.nr_outside.specs.Causes.{HasCause, Rose};
 ghost use Rattle.nr_outside.specs.Bytes.{AddsPart};
 ghost use Rattle.nr_cli.specs.Ending.{SaysPart, line, status_of, out_of, err_of};
@@ -17,6 +18,7 @@ const NO_MEMORY: u8 = 12;
 fn put<S: Sink>(sink: &mut S, text: &[u8]) -> Result<(), Fault>
     ensures ok { S.Tells → OnOk result (S.bytes sink.new ≡ S.bytes sink.old ++ text.now) }
     ensures part { S.Tells → AddsPart (S.bytes sink.old) (S.bytes sink.new) text.now }
+    ensures once { S.Tells → CallsAtMost 1 (S.writes sink.old) (S.writes sink.new) }
     ensures cause { HasCause (S.faults sink.old) (S.faults sink.new) result }
 {
     if text.is_empty() {
@@ -33,6 +35,7 @@ fn put_last<S: Sink>(sink: &mut S, text: &[u8], status: u8) -> u8
     ensures whole { S.Tells → (result ≡ 11 → ⊥) → (result ≡ 12 → ⊥)
         → S.bytes sink.new ≡ S.bytes sink.old ++ text.now }
     ensures part { S.Tells → AddsPart (S.bytes sink.old) (S.bytes sink.new) text.now }
+    ensures once { S.Tells → CallsAtMost 1 (S.writes sink.old) (S.writes sink.new) }
     ensures faults { S.faults sink.old ≤ S.faults sink.new }
     ensures sink { (status ≡ 11 → ⊥) → result ≡ 11 → Rose (S.faults sink.old) (S.faults sink.new) }
     ensures memory { status ≡ 12 → result ≡ 11 → Rose (S.faults sink.old) (S.faults sink.new) }
@@ -57,6 +60,8 @@ fn put_both<O: Sink, E: Sink>(
     ensures out { O.Tells → (result ≡ 11 → ⊥) → (result ≡ 12 → ⊥)
         → O.bytes out.new ≡ O.bytes out.old ++ out_text.now }
     ensures part { O.Tells → AddsPart (O.bytes out.old) (O.bytes out.new) out_text.now }
+    ensures out_once { O.Tells → CallsAtMost 1 (O.writes out.old) (O.writes out.new) }
+    ensures err_once { E.Tells → CallsAtMost 1 (E.writes err.old) (E.writes err.new) }
     ensures err { E.Tells → (result ≡ 11 → ⊥) → (result ≡ 12 → ⊥)
         → E.bytes err.new ≡ E.bytes err.old ++ err_text.now }
     ensures line { E.Tells → result ≡ 11 → (Rose (E.faults err.old) (E.faults err.new) → ⊥)
@@ -79,6 +84,8 @@ pub fn end_with<O: Sink, E: Sink>(alloc: Global, end: &End, out: &mut O, err: &m
     ensures out { O.Tells → (result ≡ 11 → ⊥) → (result ≡ 12 → ⊥)
         → O.bytes out.new ≡ O.bytes out.old ++ out_of end.now }
     ensures part { O.Tells → AddsPart (O.bytes out.old) (O.bytes out.new) (out_of end.now) }
+    ensures out_once { O.Tells → CallsAtMost 1 (O.writes out.old) (O.writes out.new) }
+    ensures err_once { E.Tells → CallsAtMost 1 (E.writes err.old) (E.writes err.new) }
     ensures err { E.Tells → (result ≡ 11 → ⊥) → (result ≡ 12 → ⊥)
         → E.bytes err.new ≡ E.bytes err.old ++ err_of end.now }
     ensures line { E.Tells → result ≡ 11 → (Rose (E.faults err.old) (E.faults err.new) → ⊥)

@@ -1,10 +1,11 @@
 //! The top call.
 ghost use Rattle.std.specs.Prelude.{◌≡◌, ◌⊎◌, ◌++◌, false, None, map, codes, ℤ};
+ghost use Rattle.nr_outside.specs.Calls.{CallsAtMost};
 ghost use Rattle.nr_outside.specs.Causes.{Rose};
 ghost use Rattle.nr_outside.specs.Bytes.{AddsPart};
 ghost use Rattle.nr_cli.specs.Words.{command_of};
 ghost use Rattle.nr_cli.specs.Ending.{EndsAs, SaysPart, line, status_of, out_of, err_of};
-ghost use Rattle.nr_cli.specs.Plan.{end_of};
+ghost use Rattle.nr_cli.specs.Plan.{calls_of, end_of};
 ghost use Rattle.nr_cli.specs.declared.ending.End.{End};
 
 use crate::ending::End;
@@ -31,6 +32,14 @@ pub fn nrmi<F: Folder, W: Wire, O: Sink, E: Sink>(
     requires { W.opened wire.old ≡ false }
     ensures wire { wire.new ≡ wire.old }
     ensures files { F.Tells → F.files folder.new ≡ F.files folder.old }
+
+    // How many calls are made at most: one that lists the folder and one for each file up to the first that
+    // is refused, and one on each sink.
+    ensures calls { F.Tells
+        → CallsAtMost (calls_of (command_of (map (λ w. w.now) words.now)) (F.files folder.old))
+        (F.calls folder.old) (F.calls folder.new) }
+    ensures out_once { O.Tells → CallsAtMost 1 (O.writes out.old) (O.writes out.new) }
+    ensures err_once { E.Tells → CallsAtMost 1 (E.writes err.old) (E.writes err.new) }
 
     // The status, and when each one that isn't that of the end comes.
     ensures status { F.Tells → (result ≡ 3) ⊎ (result ≡ 11) ⊎ (result ≡ 12)

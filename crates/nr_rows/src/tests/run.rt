@@ -313,3 +313,46 @@ fn calls_that_fail(rt: HostRuntime) {
         (11, "", ""),
     )
 }
+
+// How often the folder is called and both outputs are written to, over three files of which the second is refused.
+fn expect_calls<R: AllocGlobal + Abort>(
+    rt: &R,
+    words: &[&str],
+    scene: Scene<'_>,
+    status: u8,
+    calls: (u64, u64, u64),
+) {
+    let class = M_CLASS.as_slice();
+    let files = [
+        ("L.class", class),
+        ("M.class", [].as_slice()),
+        ("N.class", class),
+    ];
+    let found = run_over(rt, words, &files, scene);
+    assert_eq!(rt; (found.status, found.calls), (status, calls), "{words:?}");
+}
+
+#[test]
+fn calls_that_are_made(rt: HostRuntime) {
+    let run = ["run", "d", "M", "4"];
+    let sound = Scene::SOUND;
+    let one = run_over(&rt, &run, &[("M.class", &M_CLASS)], sound);
+    assert_eq!(rt; one.calls, (2, 1, 0));
+    let out = Scene { out: &[1], ..sound };
+    let one = run_over(&rt, &run, &[("M.class", &M_CLASS)], out);
+    assert_eq!(rt; one.calls, (2, 1, 1));
+    let both = Scene { err: &[1], ..out };
+    let one = run_over(&rt, &run, &[("M.class", &M_CLASS)], both);
+    assert_eq!(rt; one.calls, (2, 1, 1));
+    expect_calls(&rt, &["--help"], sound, 2, (0, 0, 1));
+    expect_calls(&rt, &run, sound, 4, (3, 0, 1));
+    // nothing is called after a call that failed
+    for call in 1..4 {
+        let scene = Scene {
+            folder: &[call],
+            ..sound
+        };
+        expect_calls(&rt, &run, scene, 3, (call, 0, 1));
+    }
+    expect_calls(&rt, &run, Scene { err: &[1], ..sound }, 11, (3, 0, 1));
+}

@@ -36,6 +36,8 @@ pub struct Outcome {
     pub status: u8,
     pub out: Vec<u8>,
     pub err: Vec<u8>,
+    /// How often the folder was called, the output written to and the error output.
+    pub calls: (u64, u64, u64),
 }
 
 /// A run over files of the folder `d`, each a path and its bytes.
@@ -63,5 +65,6 @@ pub fn run_over<R: AllocGlobal + Abort>(
         status,
         out: out.bytes().to_vec(alloc).expect(rt, "the output"),
         err: err.bytes().to_vec(alloc).expect(rt, "the line"),
+        calls: (folder.calls(), out.writes(), err.writes()),
     }
 }

@@ -1,6 +1,6 @@
-use Rattle.std.proofs.Common.{◌≡◌, ◌≤◌, true, drop, map}
+use Rattle.std.proofs.Common.{◌≡◌, ◌+◌, ◌≤◌, true, drop, map}
 use Rattle.std.specs.String.{string_bytes}
-use Rattle.nr_cli.specs.Plan.{all_loaded, are_listed}
+use Rattle.nr_cli.specs.Plan.{all_loaded, reads, are_listed}
 use Rattle.nr_cli.proofs.Loadings.{Walk}
 use Rattle.nr_cli.proofs.load.load_all.Given as goal
 
@@ -10,5 +10,6 @@ invariant-loop-path g l = record {
   faults : g.F.Folder.faults l.fn.folder ≤ g.F.Folder.faults l.folder;
   files : g.F.Folder.Tells → g.F.Folder.files l.folder ≡ g.F.Folder.files l.fn.folder;
   walk : g.F.Folder.Tells → Walk l.dir (g.F.Folder.files l.fn.folder) (all_loaded l.dir (g.F.Folder.files l.fn.folder) (map string_bytes l.paths)) (map string_bytes (drop l.path-index l.paths)) l.loaded.classes.items l.loaded.len;
+  calls : g.F.Folder.Tells → g.F.Folder.calls l.folder + reads l.dir (g.F.Folder.files l.fn.folder) (map string_bytes (drop l.path-index l.paths)) ≤ g.F.Folder.calls l.fn.folder + reads l.dir (g.F.Folder.files l.fn.folder) (map string_bytes l.paths);
   listed : are_listed l.dir (g.F.Folder.files l.fn.folder) (map string_bytes l.paths) ≡ true → are_listed l.dir (g.F.Folder.files l.fn.folder) (map string_bytes (drop l.path-index l.paths)) ≡ true;
 }
