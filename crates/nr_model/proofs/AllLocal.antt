@@ -75,7 +75,7 @@ module _ (P : ProgramTables) (service : Option ℕ) (s : State) (a : Asks P serv
 
 -- ---- the machine alone, through the call that is asked for
 
-module _ (P : ProgramTables) (service : Option ℕ) (fault : ℕ) (s m : State) (e : Entry) (a : AskStep P service fault s e m) (restorable : AllRestorable P e.before e.args)
+module _ (P : ProgramTables) (service : Option ℕ) (s m : State) (e : Entry) (a : AskStep P service s e m) (restorable : AllRestorable P e.before e.args)
     (n : ℕ) (t : State) (v : Option Value) (ran : Local P e.before e.method e.args n t) (returned : t.control ≡ Returned v) where
   -- the local run from the state that asks
   here : CallRun P s.heap a.asks.method (asked_args a.asks) n t
@@ -157,7 +157,7 @@ then_on P Q t m u o w = record {
   alike = w.alike;
 }
 
-module _ (P : ProgramTables) (service : Option ℕ) (fault : ℕ) (Q : ℕ → ℕ → Type 0) (s t m : State) (e : Entry) (q : AlikeState Q s t) (a : AskStep P service fault s e m) (l : IsLocal P e) where
+module _ (P : ProgramTables) (service : Option ℕ) (Q : ℕ → ℕ → Type 0) (s t m : State) (e : Entry) (q : AlikeState Q s t) (a : AskStep P service s e m) (l : IsLocal P e) where
   abbrev pub J : ℕ → ℕ → Type 0
   J = IsPair (OldAndResults s.heap l.result l.value) l.state.heap l.after
 
@@ -170,8 +170,8 @@ module _ (P : ProgramTables) (service : Option ℕ) (fault : ℕ) (Q : ℕ → �
   pub same_here : SameReached s.heap l.state.heap l.result l.after l.value
   same_here = subst (λ h. SameReached h l.state.heap l.result l.after l.value) a.before l.same
 
-  pub answered : AnswerStep P fault (waiting a.asks) (Answered l.after l.value l.printed) s m
-  answered = subst (λ r. AnswerStep P fault (waiting a.asks) r s m) l.answer a.answer
+  pub answered : AnswerStep P (waiting a.asks) (Answered l.after l.value l.printed) s m
+  answered = subst (λ r. AnswerStep P (waiting a.asks) r s m) l.answer a.answer
 
   -- the frames that wait, beside themselves
   wait_self : AlikeFrames J (waiting a.asks) (waiting a.asks)
@@ -198,7 +198,7 @@ module _ (P : ProgramTables) (service : Option ℕ) (fault : ℕ) (Q : ℕ → �
 
   module _ (restorable : AllRestorable P e.before e.args) where
     whole : Run P s (suc l.steps) after_local
-    whole = through_the_call P service fault s m e a restorable l.steps l.state l.result l.local l.returned led.0 led.1
+    whole = through_the_call P service s m e a restorable l.steps l.state l.result l.local l.returned led.0 led.1
 
     pub remote_onward : Onward P Q t m
     remote_onward =
@@ -213,7 +213,7 @@ module _ (P : ProgramTables) (service : Option ℕ) (fault : ℕ) (Q : ℕ → �
           alike = state_through (Back J) p.now m after_local too.0 (state_back J after_local m beside) p.alike;
         }
 
-module _ (P : ProgramTables) (service : Option ℕ) (fault : ℕ) where
+module _ (P : ProgramTables) (service : Option ℕ) where
   own_onward : (Q : ℕ → ℕ → Type 0) (s t m : State) → AlikeState Q s t → Step P s m → Onward P Q t m
   own_onward Q s t m q d =
       let r : Run P s (suc zero) m = (m, d, refl) in
@@ -221,16 +221,16 @@ module _ (P : ProgramTables) (service : Option ℕ) (fault : ℕ) where
       let v : LaterState Q s t m too.0 = runs_paired P (suc zero) Q s t m too.0 q r too.1 in
       record { steps = suc zero; state = too.0; run = too.1; now = v.now; older = v.moved.older; alike = v.alike }
 
-  pub all_local : (k : ℕ) (Q : ℕ → ℕ → Type 0) (s t s' : State) (calls : List Entry) → AlikeState Q s t → AskRun P service fault s calls k s' → EachLocal P calls → Onward P Q t s'
+  pub all_local : (k : ℕ) (Q : ℕ → ℕ → Type 0) (s t s' : State) (calls : List Entry) → AlikeState Q s t → AskRun P service s calls k s' → EachLocal P calls → Onward P Q t s'
   all_local k Q s t s' calls q arrived l = record { steps = zero; state = t; run = refl; now = Q; older = λ x y r. r; alike = q }
   all_local k Q s t s' calls q (own m n d r) l =
       let o = own_onward Q s t m q d in
       then_on P Q t m s' o (all_local _ o.now m o.state s' _ o.alike r l)
   all_local k Q s t s' calls q (asked {e = e} m a r) l =
-      let o = remote_onward P service fault Q s t m e q a l.0 l.1 in
+      let o = remote_onward P service Q s t m e q a l.0 l.1 in
       then_on P Q t m s' o (all_local _ o.now m o.state s' _ o.alike r l.2)
 
-  pub pairs_all_local : (ps : List (ℕ × ℕ)) (k : ℕ) (s t s' : State) (calls : List Entry) → PairedStates ps s t → AskRun P service fault s calls k s' → EachLocal P calls
+  pub pairs_all_local : (ps : List (ℕ × ℕ)) (k : ℕ) (s t s' : State) (calls : List Entry) → PairedStates ps s t → AskRun P service s calls k s' → EachLocal P calls
       → (n : ℕ) × (t' : State) × Run P t n t' × PairedStates ps s' t'
   pairs_all_local ps k s t s' calls a r l =
       let o = all_local k (PairsOf ps s t a) s t s' calls (states_match ps s t a) r l in
@@ -238,14 +238,14 @@ module _ (P : ProgramTables) (service : Option ℕ) (fault : ℕ) where
 
 -- ---- where each call is answered by just what a local run left, the machine alone comes to the same state
 
-module _ (P : ProgramTables) (service : Option ℕ) (fault : ℕ) where
-  own_step : (s m : State) (e : Entry) → AskStep P service fault s e m → IsOwn P e → AllRestorable P e.before e.args → (n : ℕ) × Run P s n m
+module _ (P : ProgramTables) (service : Option ℕ) where
+  own_step : (s m : State) (e : Entry) → AskStep P service s e m → IsOwn P e → AllRestorable P e.before e.args → (n : ℕ) × Run P s n m
   own_step s m e a o restorable =
-      let answer : AnswerStep P fault (waiting a.asks) (Answered o.state.heap o.result o.state.printed) s m = subst (λ r. AnswerStep P fault (waiting a.asks) r s m) o.answer a.answer in
+      let answer : AnswerStep P (waiting a.asks) (Answered o.state.heap o.result o.state.printed) s m = subst (λ r. AnswerStep P (waiting a.asks) r s m) o.answer a.answer in
       let arrives : with_front s.printed m.control o.state ≡ m = (λ i. record { heap = sym answer.0 i; control = m.control; printed = sym answer.2 i }) in
-      (suc o.steps, subst (λ m. Run P s (suc o.steps) m) arrives (through_the_call P service fault s m e a restorable o.steps o.state o.result o.local o.returned m.control answer.1))
+      (suc o.steps, subst (λ m. Run P s (suc o.steps) m) arrives (through_the_call P service s m e a restorable o.steps o.state o.result o.local o.returned m.control answer.1))
 
-  pub all_own : (k : ℕ) (s t : State) (calls : List Entry) → AskRun P service fault s calls k t → EachOwn P calls → (n : ℕ) × Run P s n t
+  pub all_own : (k : ℕ) (s t : State) (calls : List Entry) → AskRun P service s calls k t → EachOwn P calls → (n : ℕ) × Run P s n t
   all_own k s t calls arrived o = (zero, refl)
   all_own k s t calls (own m n d r) o = let w = all_own _ m t _ r o in (suc w.0, (m, d, w.1))
   all_own k s t calls (asked {e = e} m a r) o =

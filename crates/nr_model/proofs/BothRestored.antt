@@ -31,43 +31,43 @@ own_entry P e l = record { method = e.method; args = e.args; before = e.before; 
 abbrev own_of : (P : ProgramTables) (e : Entry) (l : IsLocal P e) → IsOwn P (own_entry P e l)
 own_of P e l = record { steps = l.steps; state = l.state; result = l.result; local = l.local; returned = l.returned; answer = refl }
 
-module _ (P : ProgramTables) (service : Option ℕ) (fault : ℕ) (Q : ℕ → ℕ → Type 0) (s t m n : State) (d e : Entry) (q : AlikeState Q s t)
-    (a : AskStep P service fault s d m) (b : AskStep P service fault t e n) (l : IsLocal P d) (r : IsLocal P e) where
+module _ (P : ProgramTables) (service : Option ℕ) (Q : ℕ → ℕ → Type 0) (s t m n : State) (d e : Entry) (q : AlikeState Q s t)
+    (a : AskStep P service s d m) (b : AskStep P service t e n) (l : IsLocal P d) (r : IsLocal P e) where
   abbrev back : AlikeState (Back Q) t s
   back = state_back Q s t q
 
   -- where the two machines would stand after their local runs
   abbrev mine : State
-  mine = after_local P service fault Q s t m d q a l
+  mine = after_local P service Q s t m d q a l
 
   abbrev theirs : State
-  theirs = after_local P service fault (Back Q) t s n e back b r
+  theirs = after_local P service (Back Q) t s n e back b r
 
-  abbrev step_mine : AskStep P service fault s (own_entry P d l) mine
-  step_mine = record { asks = a.asks; method = a.method; args = a.args; before = a.before; answer = (refl, (led P service fault Q s t m d q a l).1, refl) }
+  abbrev step_mine : AskStep P service s (own_entry P d l) mine
+  step_mine = record { asks = a.asks; method = a.method; args = a.args; before = a.before; answer = (refl, (led P service Q s t m d q a l).1, refl) }
 
-  abbrev step_theirs : AskStep P service fault t (own_entry P e r) theirs
-  step_theirs = record { asks = b.asks; method = b.method; args = b.args; before = b.before; answer = (refl, (led P service fault (Back Q) t s n e back b r).1, refl) }
+  abbrev step_theirs : AskStep P service t (own_entry P e r) theirs
+  step_theirs = record { asks = b.asks; method = b.method; args = b.args; before = b.before; answer = (refl, (led P service (Back Q) t s n e back b r).1, refl) }
 
   both_own : NextAlike Q mine theirs
-  both_own = own_alike P service fault Q s t mine theirs (own_entry P d l) (own_entry P e r) q step_mine step_theirs (own_of P d l) (own_of P e r)
+  both_own = own_alike P service Q s t mine theirs (own_entry P d l) (own_entry P e r) q step_mine step_theirs (own_of P d l) (own_of P e r)
 
   abbrev JL : ℕ → ℕ → Type 0
-  JL = J P service fault Q s t m d q a l
+  JL = J P service Q s t m d q a l
 
   abbrev JR : ℕ → ℕ → Type 0
-  JR = J P service fault (Back Q) t s n e back b r
+  JR = J P service (Back Q) t s n e back b r
 
   left_old : (x y : ℕ) → Q x y → JL x x
-  left_old x y i = in_j P service fault Q s t m d q a l x x (inl (held_left Q _ _ (q.heap.alike x y i), refl))
+  left_old x y i = in_j P service Q s t m d q a l x x (inl (held_left Q _ _ (q.heap.alike x y i), refl))
 
   right_old : (x y : ℕ) → Q x y → JR y y
-  right_old x y i = in_j P service fault (Back Q) t s n e back b r y y (inl (held_right Q _ _ (q.heap.alike x y i), refl))
+  right_old x y i = in_j P service (Back Q) t s n e back b r y y (inl (held_right Q _ _ (q.heap.alike x y i), refl))
 
   pub restored_alike : NextAlike Q m n
   restored_alike =
-      let right : AlikeState JR theirs n = beside P service fault (Back Q) t s n e back b r in
-      let left : AlikeState (Back JL) m mine = state_back JL mine m (beside P service fault Q s t m d q a l) in
+      let right : AlikeState JR theirs n = beside P service (Back Q) t s n e back b r in
+      let left : AlikeState (Back JL) m mine = state_back JL mine m (beside P service Q s t m d q a l) in
       let both : AlikeState (Through both_own.now JR) mine n = state_through both_own.now JR mine theirs n both_own.alike right in
       record {
         now = Through (Back JL) (Through both_own.now JR);
@@ -77,29 +77,29 @@ module _ (P : ProgramTables) (service : Option ℕ) (fault : ℕ) (Q : ℕ → �
 
   -- ---- what is new on the right
 
-  w : LaterState (R P service fault Q s t mine theirs (own_entry P d l) (own_entry P e r) q step_mine step_theirs (own_of P d l) (own_of P e r))
-      (first_here P service fault Q s t mine theirs (own_entry P d l) (own_entry P e r) q step_mine step_theirs (own_of P d l) (own_of P e r))
-      (first_there P service fault Q s t mine theirs (own_entry P d l) (own_entry P e r) q step_mine step_theirs (own_of P d l) (own_of P e r)) l.state r.state
-  w = later P service fault Q s t mine theirs (own_entry P d l) (own_entry P e r) q step_mine step_theirs (own_of P d l) (own_of P e r)
+  w : LaterState (R P service Q s t mine theirs (own_entry P d l) (own_entry P e r) q step_mine step_theirs (own_of P d l) (own_of P e r))
+      (first_here P service Q s t mine theirs (own_entry P d l) (own_entry P e r) q step_mine step_theirs (own_of P d l) (own_of P e r))
+      (first_there P service Q s t mine theirs (own_entry P d l) (own_entry P e r) q step_mine step_theirs (own_of P d l) (own_of P e r)) l.state r.state
+  w = later P service Q s t mine theirs (own_entry P d l) (own_entry P e r) q step_mine step_theirs (own_of P d l) (own_of P e r)
 
   abbrev S : ℕ → ℕ → Type 0
   S = w.now
 
   abbrev on_left : Local P s.heap a.asks.method (asked_args a.asks) l.steps l.state
-  on_left = here P service fault Q s t mine theirs (own_entry P d l) (own_entry P e r) q step_mine step_theirs (own_of P d l) (own_of P e r)
+  on_left = here P service Q s t mine theirs (own_entry P d l) (own_entry P e r) q step_mine step_theirs (own_of P d l) (own_of P e r)
 
   abbrev on_right : Local P t.heap b.asks.method (asked_args b.asks) r.steps r.state
-  on_right = there P service fault Q s t mine theirs (own_entry P d l) (own_entry P e r) q step_mine step_theirs (own_of P d l) (own_of P e r)
+  on_right = there P service Q s t mine theirs (own_entry P d l) (own_entry P e r) q step_mine step_theirs (own_of P d l) (own_of P e r)
 
   run_results : AlikeResult S l.result r.result
   unfolding w
-  run_results = results P service fault Q s t mine theirs (own_entry P d l) (own_entry P e r) q step_mine step_theirs (own_of P d l) (own_of P e r)
+  run_results = results P service Q s t mine theirs (own_entry P d l) (own_entry P e r) q step_mine step_theirs (own_of P d l) (own_of P e r)
 
   ml : Matched JL l.state.heap l.after
-  ml = paired_matched _ _ _ (same_here P service fault Q s t m d q a l).heaps
+  ml = paired_matched _ _ _ (same_here P service Q s t m d q a l).heaps
 
   mr : Matched JR r.state.heap r.after
-  mr = paired_matched _ _ _ (same_here P service fault (Back Q) t s n e back b r).heaps
+  mr = paired_matched _ _ _ (same_here P service (Back Q) t s n e back b r).heaps
 
   ms : Matched S l.state.heap r.state.heap
   ms = w.alike.heap
@@ -123,7 +123,7 @@ module _ (P : ProgramTables) (service : Option ℕ) (fault : ℕ) (Q : ℕ → �
   good_result : (y z : ℕ) → InResults r.result r.value y z → Good y
   good_result y z i =
       let x = result_over (Back S) r.state.heap l.state.heap (back_matched S _ _ ms) r.result l.result y (result_back S l.result r.result run_results) i.0 in
-      let given : AlikeResult JL l.result l.value = result_match JL l.result l.value (same_here P service fault Q s t m d q a l).results (λ x y i. in_j P service fault Q s t m d q a l x y (inr i)) in
+      let given : AlikeResult JL l.result l.value = result_match JL l.result l.value (same_here P service Q s t m d q a l).results (λ x y i. in_j P service Q s t m d q a l x y (inr i)) in
       let c = result_over JL l.state.heap l.after ml l.result l.value x.0 given x.1 in
       record { left = x.0; after = c.0; related = x.2; restored = c.2 }
 
@@ -143,7 +143,7 @@ module _ (P : ProgramTables) (service : Option ℕ) (fault : ℕ) (Q : ℕ → �
 
   -- an old name is restored under itself
   right_itself : (y z : ℕ) → get t.heap y ≢ None → JR y z → get t.heap z ≢ None
-  right_itself y z old i = subst (λ z. get t.heap z ≢ None) (mr.one_right y y z (in_j P service fault (Back Q) t s n e back b r y y (inl (old, refl))) i) old
+  right_itself y z old i = subst (λ z. get t.heap z ≢ None) (mr.one_right y y z (in_j P service (Back Q) t s n e back b r y y (inl (old, refl))) i) old
 
   good_pair : IsClosed t.heap → (y z : ℕ) → JR y z → get t.heap z ≡ None → (Good y → ⊥) → ⊥
   good_pair closed y z p new fails = sum_left p.start
@@ -159,7 +159,7 @@ module _ (P : ProgramTables) (service : Option ℕ) (fault : ℕ) (Q : ℕ → �
 
       not_old : get s.heap g.after ≢ None → ⊥
       not_old old =
-          let itself : JL g.after g.after = in_j P service fault Q s t m d q a l g.after g.after (inl (old, refl)) in
+          let itself : JL g.after g.after = in_j P service Q s t m d q a l g.after g.after (inl (old, refl)) in
           let same : g.left ≡ g.after = ml.one_left g.left g.after g.after g.restored itself in
           let old_left : get s.heap g.left ≢ None = subst (λ x. get s.heap x ≢ None) (sym same) old in
           sum_left (w.moved.newer g.left y g.related)
@@ -175,17 +175,17 @@ module _ (P : ProgramTables) (service : Option ℕ) (fault : ℕ) (Q : ℕ → �
   kept_left : (x : ℕ) (o : Obj) → get s.heap x ≡ Some o → HasLong l.after x (length o.slots)
   kept_left x o f =
       let old : get s.heap x ≢ None = some_there f in
-      let st = (run_stays P l.steps (first_here P service fault Q s t mine theirs (own_entry P d l) (own_entry P e r) q step_mine step_theirs (own_of P d l) (own_of P e r)) l.state
-      (run_here P service fault Q s t mine theirs (own_entry P d l) (own_entry P e r) q step_mine step_theirs (own_of P d l) (own_of P e r))).at x o (on_left.copies.old x old ∙ f) in
-      let c = alike_long JL (get l.state.heap x) (get l.after x) st.0 (ml.alike x x (in_j P service fault Q s t m d q a l x x (inl (old, refl)))) st.1 in
+      let st = (run_stays P l.steps (first_here P service Q s t mine theirs (own_entry P d l) (own_entry P e r) q step_mine step_theirs (own_of P d l) (own_of P e r)) l.state
+      (run_here P service Q s t mine theirs (own_entry P d l) (own_entry P e r) q step_mine step_theirs (own_of P d l) (own_of P e r))).at x o (on_left.copies.old x old ∙ f) in
+      let c = alike_long JL (get l.state.heap x) (get l.after x) st.0 (ml.alike x x (in_j P service Q s t m d q a l x x (inl (old, refl)))) st.1 in
       (c.0, c.1, c.2 ∙ st.3)
 
   kept_right : (x : ℕ) (o : Obj) → get t.heap x ≡ Some o → HasLong r.after x (length o.slots)
   kept_right x o f =
       let old : get t.heap x ≢ None = some_there f in
-      let st = (run_stays P r.steps (first_there P service fault Q s t mine theirs (own_entry P d l) (own_entry P e r) q step_mine step_theirs (own_of P d l) (own_of P e r)) r.state
-      (run_there P service fault Q s t mine theirs (own_entry P d l) (own_entry P e r) q step_mine step_theirs (own_of P d l) (own_of P e r))).at x o (on_right.copies.old x old ∙ f) in
-      let c = alike_long JR (get r.state.heap x) (get r.after x) st.0 (mr.alike x x (in_j P service fault (Back Q) t s n e back b r x x (inl (old, refl)))) st.1 in
+      let st = (run_stays P r.steps (first_there P service Q s t mine theirs (own_entry P d l) (own_entry P e r) q step_mine step_theirs (own_of P d l) (own_of P e r)) r.state
+      (run_there P service Q s t mine theirs (own_entry P d l) (own_entry P e r) q step_mine step_theirs (own_of P d l) (own_of P e r))).at x o (on_right.copies.old x old ∙ f) in
+      let c = alike_long JR (get r.state.heap x) (get r.after x) st.0 (mr.alike x x (in_j P service (Back Q) t s n e back b r x x (inl (old, refl)))) st.1 in
       (c.0, c.1, c.2 ∙ st.3)
 
   -- ---- the growth
@@ -198,8 +198,8 @@ module _ (P : ProgramTables) (service : Option ℕ) (fault : ℕ) (Q : ℕ → �
 
   pub grew_less : Same t.heap r.state.heap r.result r.after r.value → IsClosed t.heap → cells n.heap + cells s.heap ≤ cells m.heap + cells t.heap
   grew_less same closed =
-      subst (λ h. cells h + cells s.heap ≤ cells m.heap + cells t.heap) (sym (answered P service fault (Back Q) t s n e back b r).0)
-      (subst (λ h. cells r.after + cells s.heap ≤ cells h + cells t.heap) (sym (answered P service fault Q s t m d q a l).0)
+      subst (λ h. cells h + cells s.heap ≤ cells m.heap + cells t.heap) (sym (answered P service (Back Q) t s n e back b r).0)
+      (subst (λ h. cells r.after + cells s.heap ≤ cells h + cells t.heap) (sym (answered P service Q s t m d q a l).0)
       (grown_less s.heap l.after t.heap r.after (Back Now) (λ x y z i j. now.one_right z x y i j) kept_left kept_right new))
     where
       new : (z : ℕ) (o : Obj) → get r.after z ≡ Some o → get t.heap z ≡ None → (((c : ℕ) × Back Now z c × (get s.heap c ≡ None) × HasLong l.after c (length o.slots)) → ⊥) → ⊥

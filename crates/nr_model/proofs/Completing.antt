@@ -20,7 +20,7 @@ use Rattle.nr_model.specs.LimitedRuns.{LimitedRun, Follows, NextCall}
 use Rattle.nr_model.proofs.Paths.{none_some}
 use Rattle.nr_model.proofs.Following.{follow, end_reached, more_steps, next_call, step_passes, answer_passes, limited_is_run, stays_closed}
 
-module _ (P : ProgramTables) (service : Option ℕ) (fault : ℕ) (Fits : Heap → ℕ → List Value → Type 0) (budget most : ℕ) where
+module _ (P : ProgramTables) (service : Option ℕ) (Fits : Heap → ℕ → List Value → Type 0) (budget most : ℕ) where
   abbrev pub AllFit : List Entry → Type 0
   AllFit [] = Unit {0}
   AllFit (e ∷ es) = Fits e.before e.method e.args × AllFit es
@@ -42,7 +42,7 @@ module _ (P : ProgramTables) (service : Option ℕ) (fault : ℕ) (Fits : Heap �
     pub calls : List Entry
     pub steps : ℕ
     pub last : State
-    pub run : LimitedRun P service fault s calls steps last
+    pub run : LimitedRun P service s calls steps last
     pub in_budget : steps ≤ budget
     pub result : ℤ
     pub returned : last.control ≡ Returned (Some (Int result))
@@ -57,7 +57,7 @@ module _ (P : ProgramTables) (service : Option ℕ) (fault : ℕ) (Fits : Heap �
     limited : (n : State) (f : Fate) → (Asks P service t → ⊥) → Step P t n → passed P n ≡ Some f → Stop t j others
     refused : (a : Asks P service t) → (Fits t.heap a.method (asked_args a) → ⊥) → Stop t j others
     too_many : Asks P service t → length others ≡ most → Stop t j others
-    answer_limited : (e : Entry) (n : State) (f : Fate) → AskStep P service fault t e n → IsRestored P e → passed P n ≡ Some f → Stop t j others
+    answer_limited : (e : Entry) (n : State) (f : Fate) → AskStep P service t e n → IsRestored P e → passed P n ≡ Some f → Stop t j others
 
   int_result : (r : ℤ) (u v : Option Value) → AlikeResult Any u v → u ≡ Some (Int r) → v ≡ Some (Int r)
   int_result r u v no_result e = absurd (none_some e)
@@ -93,20 +93,20 @@ module _ (P : ProgramTables) (service : Option ℕ) (fault : ℕ) (Fits : Heap �
       (s t t' : State) (j : ℕ) (others : List Entry) (f : Fitting s)
       (p : PairedStates ps s t) (size : cells t.heap ≤ cells s.heap)
       (first_closed : IsClosed s.heap) (first_named : (x : ℕ) → NamedIn s.control x → get s.heap x ≢ None) (closed : IsClosed t.heap) (named : (x : ℕ) → NamedIn t.control x → get t.heap x ≢ None)
-      (run : AskRun P service fault t others j t') (restored : AllRestored P others) where
+      (run : AskRun P service t others j t') (restored : AllRestored P others) where
     ends : IsEnd f.last.control
     ends = subst IsEnd (sym f.returned) tt
 
-    w : Follows P service fault ps s f.last f.calls f.steps t t' others j
-    w = follow P service fault ps j f.steps s t f.last t' f.calls others p size closed named f.run ends (all_local f.calls f.restored) run restored
+    w : Follows P service ps s f.last f.calls f.steps t t' others j
+    w = follow P service ps j f.steps s t f.last t' f.calls others p size closed named f.run ends (all_local f.calls f.restored) run restored
 
     next : (a : Asks P service t') → NextCall P ps f.calls others t'.heap a.method (asked_args a)
-    next a = next_call P service fault ps s f.last t t' f.calls others f.steps j w ends a
+    next a = next_call P service ps s f.last t t' f.calls others f.steps j w ends a
 
     fits_next : (a : Asks P service t') → Fits t'.heap a.method (asked_args a)
     fits_next a =
         let c = next a in
-        let each = (stays_closed P service fault f.steps s f.last f.calls (limited_is_run P service fault s f.last f.calls f.steps f.run) f.restored first_closed first_named).0 in
+        let each = (stays_closed P service f.steps s f.last f.calls (limited_is_run P service s f.last f.calls f.steps f.run) f.restored first_closed first_named).0 in
         let before : IsClosed c.entry.before = closed_among c.made c.entry c.later (subst AllClosed c.calls_apart each) in
         carried ps c.entry.before t'.heap a.method c.entry.args (asked_args a) c.paired before w.closed c.size
         (subst (λ m. Fits c.entry.before m c.entry.args) c.one_method (fit_among c.made c.entry c.later (subst AllFit c.calls_apart f.fit)))
@@ -122,13 +122,13 @@ module _ (P : ProgramTables) (service : Option ℕ) (fault : ℕ) (Fits : Heap �
     -- it stops at the end alone, with the result and the output of the run that fits
     pub completes : Stop t' j others → (t'.control ≡ Returned (Some (Int f.result))) × (t'.printed ≡ f.last.printed)
     completes (at_end e) =
-        let r = end_reached P service fault ps s f.last t t' f.calls others f.steps j w e in
+        let r = end_reached P service ps s f.last t t' f.calls others f.steps j w e in
         (int_end f.last.control t'.control f.result r.2.shape f.returned, sym r.2.printed)
     completes (spent open_ e) =
-        let more : suc j ≤ f.steps = more_steps P service fault ps s f.last t t' f.calls others f.steps j w ends open_ in
+        let more : suc j ≤ f.steps = more_steps P service ps s f.last t t' f.calls others f.steps j w ends open_ in
         let within : f.steps ≤ budget = f.in_budget in
         absurd (omega (arith, more, within, e))
-    completes (limited n d no_ask g v) = absurd (none_some (sym (step_passes P service fault ps s f.last t t' f.calls others f.steps j w ends n no_ask g) ∙ v))
+    completes (limited n d no_ask g v) = absurd (none_some (sym (step_passes P service ps s f.last t t' f.calls others f.steps j w ends n no_ask g) ∙ v))
     completes (refused a x) = absurd (x (fits_next a))
     completes (too_many a e) = let room : suc (length others) ≤ most = room_next a in absurd (omega (arith, room, e))
-    completes (answer_limited e n d b r v) = absurd (none_some (sym (answer_passes P service fault ps s f.last t t' f.calls others f.steps j w ends (all_local f.calls f.restored) n e b r) ∙ v))
+    completes (answer_limited e n d b r v) = absurd (none_some (sym (answer_passes P service ps s f.last t t' f.calls others f.steps j w ends (all_local f.calls f.restored) n e b r) ∙ v))

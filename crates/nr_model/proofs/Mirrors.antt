@@ -18,7 +18,7 @@ use Rattle.nr_model.specs.Steps.{unwound, given, Run}
 use Rattle.nr_model.specs.Locals.{start_of, CopyArgs, Local}
 use Rattle.nr_model.specs.Same.{SameReached}
 use Rattle.nr_model.specs.LocalEntries.{IsLocal, IsFaulted, IsOwn, Mirrors, no_call, answered_call, faulted_call, EachLocalOrFaulted}
-use Rattle.nr_model.specs.Asks.{Asks, asked_args, waiting, Answered, Faulted, Entry, AnswerStep, AskStep, AskRun, arrived, own, asked}
+use Rattle.nr_model.specs.Asks.{Asks, asked_args, waiting, Answered, Faulted, Entry, AnswerStep, AskStep, AskRun, arrived, own, asked, fault_class}
 use Rattle.nr_model.specs.Throws.{zeros}
 use Rattle.nr_linked.specs.Kinds.{class_kind}
 use Rattle.nr_linked.specs.Sites.{site_at}
@@ -95,39 +95,39 @@ module _ (P : ProgramTables) (service : Option ℕ) (Q : ℕ → ℕ → Type 0)
 
 -- ---- how the other machine goes on from t, with its own entry, to a state like m
 
-pub record Beside (P : ProgramTables) (service : Option ℕ) (fault : ℕ) (Q : ℕ → ℕ → Type 0) (e : Entry) (t m : State) : Type 1 where
+pub record Beside (P : ProgramTables) (service : Option ℕ) (Q : ℕ → ℕ → Type 0) (e : Entry) (t m : State) : Type 1 where
   pub entry : Entry
   pub method : e.method ≡ entry.method
   pub state : State
-  pub step : AskStep P service fault t entry state
+  pub step : AskStep P service t entry state
   pub fate : (IsLocal P e × IsOwn P entry) ⊎ (IsFaulted e × IsFaulted entry)
   pub now : ℕ → ℕ → Type 0
   pub older : (x y : ℕ) → Q x y → now x y
   pub alike : AlikeState now m state
 
-module _ (P : ProgramTables) (service : Option ℕ) (fault : ℕ) (Q : ℕ → ℕ → Type 0) (s t m : State) (e : Entry) (q : AlikeState Q s t) (a : AskStep P service fault s e m) where
+module _ (P : ProgramTables) (service : Option ℕ) (Q : ℕ → ℕ → Type 0) (s t m : State) (e : Entry) (q : AlikeState Q s t) (a : AskStep P service s e m) where
   abbrev too : AsksToo Q P service s t a.asks
   too = asks_too P service Q s t q a.asks
 
-  faulted_beside : IsFaulted e → Beside P service fault Q e t m
+  faulted_beside : IsFaulted e → Beside P service Q e t m
   faulted_beside f =
-      let answer : AnswerStep P fault (waiting a.asks) (Faulted f.0) s m = subst (λ r. AnswerStep P fault (waiting a.asks) r s m) f.1 a.answer in
+      let answer : AnswerStep P (waiting a.asks) (Faulted f.0) s m = subst (λ r. AnswerStep P (waiting a.asks) r s m) f.1 a.answer in
       let n = fresh t.heap in
-      let object : Obj = new_object (class_kind fault) (zeros P fault) in
-      let new : AlikeObj Q object object = record { kind = refl; slots = plains_like Q (zeros P fault) } in
+      let object : Obj = new_object (class_kind (fault_class P)) (zeros P (fault_class P)) in
+      let new : AlikeObj Q object object = record { kind = refl; slots = plains_like Q (zeros P (fault_class P)) } in
       let S : ℕ → ℕ → Type 0 = with_new Q f.0 n.0 in
       record {
         entry = record { method = too.asks.method; args = asked_args too.asks; before = t.heap; answer = Faulted n.0 };
         method = a.method ∙ sym too.method;
-        state = record { heap = insert t.heap n.0 object; control = unwound P (class_kind fault) (Ref n.0) (waiting too.asks); printed = t.printed };
+        state = record { heap = insert t.heap n.0 object; control = unwound P (class_kind (fault_class P)) (Ref n.0) (waiting too.asks); printed = t.printed };
         step = record { asks = too.asks; method = refl; args = refl; before = refl; answer = (n.1, refl, refl, refl) };
         fate = inr (f, (n.0, refl));
         now = S;
         older = λ x y r. inl r;
         alike = record {
           heap = subst (λ h. Matched S h (insert t.heap n.0 object)) (sym answer.1) (made Q s.heap t.heap q.heap f.0 n.0 answer.0 n.1 object object new);
-          control = subst (λ c. AlikeControl S c (unwound P (class_kind fault) (Ref n.0) (waiting too.asks))) (sym answer.2)
-              (unwound_alike P S (class_kind fault) (Ref f.0) (Ref n.0) (waiting a.asks) (waiting too.asks) (like_ref (inr (refl, refl))) (frames_more Q S (λ x y r. inl r) _ _ too.frames));
+          control = subst (λ c. AlikeControl S c (unwound P (class_kind (fault_class P)) (Ref n.0) (waiting too.asks))) (sym answer.2)
+              (unwound_alike P S (class_kind (fault_class P)) (Ref f.0) (Ref n.0) (waiting a.asks) (waiting too.asks) (like_ref (inr (refl, refl))) (frames_more Q S (λ x y r. inl r) _ _ too.frames));
           printed = answer.3 ∙ q.printed;
         };
       }
@@ -196,23 +196,23 @@ module _ (P : ProgramTables) (service : Option ℕ) (fault : ℕ) (Q : ℕ → �
     ended = returned_too l.state.control run_there.0.control l.result later.alike.control l.returned
 
     abbrev K : ℕ → ℕ → Type 0
-    K = J P service fault Q s t m e q a l
+    K = J P service Q s t m e q a l
 
     abbrev Now : ℕ → ℕ → Type 0
     Now = Through (Back K) later.now
 
     grown : (x y : ℕ) → Q x y → Now x y
-    grown x y r = record { by = x; first = old_j P service fault Q s t m e q a l x y r; second = later.moved.older x y (inl r) }
+    grown x y r = record { by = x; first = old_j P service Q s t m e q a l x y r; second = later.moved.older x y (inl r) }
 
-    answer_here : AnswerStep P fault (waiting a.asks) (Answered l.after l.value l.printed) s m
-    answer_here = answered P service fault Q s t m e q a l
+    answer_here : AnswerStep P (waiting a.asks) (Answered l.after l.value l.printed) s m
+    answer_here = answered P service Q s t m e q a l
 
     same_there : SameReached s.heap l.state.heap l.result l.after l.value
-    same_there = same_here P service fault Q s t m e q a l
+    same_there = same_here P service Q s t m e q a l
 
     values : AlikeResult Now l.value ended.0
     values = result_through (Back K) later.now l.value l.result ended.0
-        (result_back K l.result l.value (result_match K l.result l.value same_there.results (λ x y i. in_j P service fault Q s t m e q a l x y (inr i))))
+        (result_back K l.result l.value (result_match K l.result l.value same_there.results (λ x y i. in_j P service Q s t m e q a l x y (inr i))))
         ended.2
 
     given_both : AlikeNext Now (given P l.value (waiting a.asks)) (given P ended.0 (waiting too.asks))
@@ -240,7 +240,7 @@ module _ (P : ProgramTables) (service : Option ℕ) (fault : ℕ) (Q : ℕ → �
         begun : IsSomeAnd (method_at P a.asks.method) (λ i. first_there ≡ start_of i a.asks.method heap_there args_there)
         begun = subst (λ o. IsSomeAnd o (λ i. first_there ≡ start_of i a.asks.method heap_there args_there)) (sym a.asks.called) refl
 
-    local_beside : Beside P service fault Q e t m
+    local_beside : Beside P service Q e t m
     local_beside = record {
       entry = record { method = too.asks.method; args = asked_args too.asks; before = t.heap; answer = Answered run_there.0.heap ended.0 run_there.0.printed };
       method = a.method ∙ sym too.method;
@@ -257,23 +257,23 @@ module _ (P : ProgramTables) (service : Option ℕ) (fault : ℕ) (Q : ℕ → �
       };
     }
 
-  pub remote_beside : IsLocal P e ⊎ IsFaulted e → Beside P service fault Q e t m
+  pub remote_beside : IsLocal P e ⊎ IsFaulted e → Beside P service Q e t m
   remote_beside (inl l) = local_beside l
   remote_beside (inr f) = faulted_beside f
 
 -- where the other machine's run leaves it
-pub record OnwardToo (P : ProgramTables) (service : Option ℕ) (fault : ℕ) (Q : ℕ → ℕ → Type 0) (calls : List Entry) (k : ℕ) (t s' : State) : Type 1 where
+pub record OnwardToo (P : ProgramTables) (service : Option ℕ) (Q : ℕ → ℕ → Type 0) (calls : List Entry) (k : ℕ) (t s' : State) : Type 1 where
   pub others : List Entry
   pub state : State
-  pub run : AskRun P service fault t others k state
+  pub run : AskRun P service t others k state
   pub mirrors : Mirrors P calls others
   pub now : ℕ → ℕ → Type 0
   pub older : (x y : ℕ) → Q x y → now x y
   pub alike : AlikeState now s' state
 
-module _ (P : ProgramTables) (service : Option ℕ) (fault : ℕ) where
-  pub mirrored_run : (k : ℕ) (Q : ℕ → ℕ → Type 0) (s t s' : State) (calls : List Entry) → AlikeState Q s t → AskRun P service fault s calls k s' → EachLocalOrFaulted P calls
-      → OnwardToo P service fault Q calls k t s'
+module _ (P : ProgramTables) (service : Option ℕ) where
+  pub mirrored_run : (k : ℕ) (Q : ℕ → ℕ → Type 0) (s t s' : State) (calls : List Entry) → AlikeState Q s t → AskRun P service s calls k s' → EachLocalOrFaulted P calls
+      → OnwardToo P service Q calls k t s'
   mirrored_run k Q s t s' calls q arrived l = record { others = []; state = t; run = arrived; mirrors = no_call; now = Q; older = λ x y r. r; alike = q }
   mirrored_run k Q s t s' calls q (own m n d r) l =
       let d2 = step_too P Q s t m q d in
@@ -289,7 +289,7 @@ module _ (P : ProgramTables) (service : Option ℕ) (fault : ℕ) where
         alike = w.alike;
       }
   mirrored_run k Q s t s' calls q (asked {e = e} {calls = rest} m a r) l =
-      let b = remote_beside P service fault Q s t m e q a l.0 in
+      let b = remote_beside P service Q s t m e q a l.0 in
       let w = mirrored_run _ b.now m b.state s' rest b.alike r l.1 in
       record {
         others = b.entry ∷ w.others;
@@ -301,8 +301,8 @@ module _ (P : ProgramTables) (service : Option ℕ) (fault : ℕ) where
         alike = w.alike;
       }
 
-  pub pairs_mirrored : (ps : List (ℕ × ℕ)) (k : ℕ) (s t s' : State) (calls : List Entry) → PairedStates ps s t → AskRun P service fault s calls k s' → EachLocalOrFaulted P calls
-      → (others : List Entry) × (t' : State) × AskRun P service fault t others k t' × Mirrors P calls others × PairedStates ps s' t'
+  pub pairs_mirrored : (ps : List (ℕ × ℕ)) (k : ℕ) (s t s' : State) (calls : List Entry) → PairedStates ps s t → AskRun P service s calls k s' → EachLocalOrFaulted P calls
+      → (others : List Entry) × (t' : State) × AskRun P service t others k t' × Mirrors P calls others × PairedStates ps s' t'
   pairs_mirrored ps k s t s' calls a r l =
       let o = mirrored_run k (PairsOf ps s t a) s t s' calls (states_match ps s t a) r l in
       (o.others, o.state, o.run, o.mirrors, states_pair ps o.now s' o.state o.alike (λ x y i. o.older x y (start_pair (StartOf ps s t) s.heap t.heap x y (inl i))))

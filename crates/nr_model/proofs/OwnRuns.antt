@@ -15,7 +15,7 @@ use Rattle.nr_model.specs.CallRules.{operands_of}
 use Rattle.nr_model.specs.Steps.{first_locals, Run}
 use Rattle.nr_model.specs.Locals.{start_of, Local}
 use Rattle.nr_model.specs.LocalEntries.{IsFaulted, IsOwn, Fated, AllFated}
-use Rattle.nr_model.specs.Asks.{Asks, asked_args, waiting, Answered, Faulted, Entry, AnswerStep, AskStep, AskRun, arrived, own, asked}
+use Rattle.nr_model.specs.Asks.{Asks, asked_args, waiting, Answered, Faulted, Entry, AnswerStep, AskStep, AskRun, arrived, own, asked, fault_class}
 use Rattle.nr_linked.specs.declared.program.tables.Resolved.TheVariants as resolved
 use Rattle.nr_linked.specs.Kinds.{class_kind}
 use Rattle.nr_linked.specs.Sites.{site_at}
@@ -92,17 +92,17 @@ pub record NextAlike (Q : ℕ → ℕ → Type 0) (m n : State) : Type 1 where
   pub older : (x y : ℕ) → Q x y → now x y
   pub alike : AlikeState now m n
 
-module _ (P : ProgramTables) (service : Option ℕ) (fault : ℕ) (Q : ℕ → ℕ → Type 0) (s t m n : State) (d e : Entry) (q : AlikeState Q s t)
-    (a : AskStep P service fault s d m) (b : AskStep P service fault t e n) where
+module _ (P : ProgramTables) (service : Option ℕ) (Q : ℕ → ℕ → Type 0) (s t m n : State) (d e : Entry) (q : AlikeState Q s t)
+    (a : AskStep P service s d m) (b : AskStep P service t e n) where
   pub both : AsksAlike Q P service s t a.asks b.asks
   both = asks_alike P service Q s t q a.asks b.asks
 
   faulted_alike : IsFaulted d → IsFaulted e → NextAlike Q m n
   faulted_alike f g =
-      let left : AnswerStep P fault (waiting a.asks) (Faulted f.0) s m = subst (λ r. AnswerStep P fault (waiting a.asks) r s m) f.1 a.answer in
-      let right : AnswerStep P fault (waiting b.asks) (Faulted g.0) t n = subst (λ r. AnswerStep P fault (waiting b.asks) r t n) g.1 b.answer in
-      let object : Obj = new_object (class_kind fault) (zeros P fault) in
-      let new : AlikeObj Q object object = record { kind = refl; slots = plains_like Q (zeros P fault) } in
+      let left : AnswerStep P (waiting a.asks) (Faulted f.0) s m = subst (λ r. AnswerStep P (waiting a.asks) r s m) f.1 a.answer in
+      let right : AnswerStep P (waiting b.asks) (Faulted g.0) t n = subst (λ r. AnswerStep P (waiting b.asks) r t n) g.1 b.answer in
+      let object : Obj = new_object (class_kind (fault_class P)) (zeros P (fault_class P)) in
+      let new : AlikeObj Q object object = record { kind = refl; slots = plains_like Q (zeros P (fault_class P)) } in
       let S : ℕ → ℕ → Type 0 = with_new Q f.0 g.0 in
       record {
         now = S;
@@ -110,7 +110,7 @@ module _ (P : ProgramTables) (service : Option ℕ) (fault : ℕ) (Q : ℕ → �
         alike = record {
           heap = subst₂ (Matched S) (sym left.1) (sym right.1) (made Q s.heap t.heap q.heap f.0 g.0 left.0 right.0 object object new);
           control = subst₂ (AlikeControl S) (sym left.2) (sym right.2)
-              (unwound_alike P S (class_kind fault) (Ref f.0) (Ref g.0) (waiting a.asks) (waiting b.asks) (like_ref (inr (refl, refl))) (frames_more Q S (λ x y r. inl r) _ _ both.frames));
+              (unwound_alike P S (class_kind (fault_class P)) (Ref f.0) (Ref g.0) (waiting a.asks) (waiting b.asks) (like_ref (inr (refl, refl))) (frames_more Q S (λ x y r. inl r) _ _ both.frames));
           printed = left.3 ∙ q.printed ∙ sym right.3;
         };
       }
@@ -166,11 +166,11 @@ module _ (P : ProgramTables) (service : Option ℕ) (fault : ℕ) (Q : ℕ → �
     grown : (x y : ℕ) → Q x y → later.now x y
     grown x y i = later.moved.older x y (inl i)
 
-    left : AnswerStep P fault (waiting a.asks) (Answered l.state.heap l.result l.state.printed) s m
-    left = subst (λ r. AnswerStep P fault (waiting a.asks) r s m) l.answer a.answer
+    left : AnswerStep P (waiting a.asks) (Answered l.state.heap l.result l.state.printed) s m
+    left = subst (λ r. AnswerStep P (waiting a.asks) r s m) l.answer a.answer
 
-    right : AnswerStep P fault (waiting b.asks) (Answered r.state.heap r.result r.state.printed) t n
-    right = subst (λ r. AnswerStep P fault (waiting b.asks) r t n) r.answer b.answer
+    right : AnswerStep P (waiting b.asks) (Answered r.state.heap r.result r.state.printed) t n
+    right = subst (λ r. AnswerStep P (waiting b.asks) r t n) r.answer b.answer
 
     pub own_alike : NextAlike Q m n
     own_alike = record {
@@ -199,11 +199,11 @@ pub record EndsAlike (Q : ℕ → ℕ → Type 0) (k l : ℕ) (s t : State) : Ty
 pub no_ask : (P : ProgramTables) (service : Option ℕ) (t : State) → Asks P service t → IsEnd t.control → ⊥
 no_ask P service t a e = subst IsEnd a.running e
 
-module _ (P : ProgramTables) (service : Option ℕ) (fault : ℕ) (faulted : ℕ → Bool) where
+module _ (P : ProgramTables) (service : Option ℕ) (faulted : ℕ → Bool) where
   then_ends : (Q S : ℕ → ℕ → Type 0) (k l : ℕ) (s t : State) → ((x y : ℕ) → Q x y → S x y) → EndsAlike S k l s t → EndsAlike Q (suc k) (suc l) s t
   then_ends Q S k l s t more w = record { steps = ap suc w.steps; now = w.now; older = λ x y r. w.older x y (more x y r); alike = w.alike }
 
-  pub ends_alike : (k l j : ℕ) (Q : ℕ → ℕ → Type 0) (s t s' t' : State) (ds es : List Entry) → AlikeState Q s t → AskRun P service fault s ds k s' → AskRun P service fault t es l t'
+  pub ends_alike : (k l j : ℕ) (Q : ℕ → ℕ → Type 0) (s t s' t' : State) (ds es : List Entry) → AlikeState Q s t → AskRun P service s ds k s' → AskRun P service t es l t'
       → IsEnd s'.control → IsEnd t'.control → AllFated P faulted j ds → AllFated P faulted j es → EndsAlike Q k l s' t'
   ends_alike k l j Q s t s' t' ds es q arrived arrived e f u v = record { steps = refl; now = Q; older = λ x y r. r; alike = q }
   ends_alike k l j Q s t s' t' ds es q arrived (own m n d r) e f u v = absurd (no_step P t.control t m (end_over Q _ _ q.control e) d)
@@ -216,10 +216,10 @@ module _ (P : ProgramTables) (service : Option ℕ) (fault : ℕ) (faulted : ℕ
       let x : LaterState Q s t m w = steps_paired P Q s t m w q d c in
       then_ends Q x.now _ _ s' t' x.moved.older (ends_alike _ _ j x.now m w s' t' ds es x.alike r z e f u v)
   ends_alike k l j Q s t s' t' ds es q (asked {e = d} m a r) (asked {e = c} w b z) e f u v =
-      let x = fated_alike P service fault Q s t m w d c q a b (faulted j) u.0 v.0 in
+      let x = fated_alike P service Q s t m w d c q a b (faulted j) u.0 v.0 in
       then_ends Q x.now _ _ s' t' x.older (ends_alike _ _ (suc j) x.now m w s' t' _ _ x.alike r z e f u.1 v.1)
 
-  pub pairs_ends_alike : (ps : List (ℕ × ℕ)) (k l : ℕ) (s t s' t' : State) (ds es : List Entry) → PairedStates ps s t → AskRun P service fault s ds k s' → AskRun P service fault t es l t'
+  pub pairs_ends_alike : (ps : List (ℕ × ℕ)) (k l : ℕ) (s t s' t' : State) (ds es : List Entry) → PairedStates ps s t → AskRun P service s ds k s' → AskRun P service t es l t'
       → IsEnd s'.control → IsEnd t'.control → AllFated P faulted 1 ds → AllFated P faulted 1 es → (k ≡ l) × PairedStates ps s' t'
   pairs_ends_alike ps k l s t s' t' ds es a p q e f u v =
       let o = ends_alike k l 1 (PairsOf ps s t a) s t s' t' ds es (states_match ps s t a) p q e f u v in

@@ -6,6 +6,8 @@ use Rattle.nr_optable.specs.declared.table.Family.TheVariants.{F32}
 use Rattle.nr_linked.specs.declared.program.tables.MethodInfo.{MethodInfo}
 use Rattle.nr_linked.specs.declared.program.tables.ProgramTables.{ProgramTables}
 use Rattle.nr_linked.specs.declared.program.tables.Resolved.TheVariants as resolved
+use Rattle.nr_linked.specs.declared.program.built_in.BuiltIn.TheVariants.{RemoteFault}
+use Rattle.nr_linked.specs.BuiltIns.{built_in}
 use Rattle.nr_linked.specs.Kinds.{class_kind}
 use Rattle.nr_prog.specs.Members.{is_static}
 use Rattle.nr_linked.specs.Programs.{method_at}
@@ -67,27 +69,31 @@ pub record Entry : Type 0 where
   pub before : Heap
   pub answer : Answer
 
--- the call is answered from s, where these frames wait, in t; a fault throws a new object of the class `fault`
-abbrev pub AnswerStep : ProgramTables → ℕ → List Frame → Answer → State → State → Type 0
-AnswerStep P fault frames (Answered after value printed) s t =
+-- the class that a fault throws
+abbrev pub fault_class : ProgramTables → ℕ
+fault_class P = built_in P RemoteFault
+
+-- the call is answered from s, where these frames wait, in t; a fault throws a new object of the class for it
+abbrev pub AnswerStep : ProgramTables → List Frame → Answer → State → State → Type 0
+AnswerStep P frames (Answered after value printed) s t =
     (t.heap ≡ after) × (given P value frames ≡ Some t.control) × (t.printed ≡ s.printed ++ printed)
-AnswerStep P fault frames (Faulted name) s t =
-    (get s.heap name ≡ None) × (t.heap ≡ insert s.heap name (new_object (class_kind fault) (zeros P fault)))
-    × (t.control ≡ unwound P (class_kind fault) (Ref name) frames) × (t.printed ≡ s.printed)
+AnswerStep P frames (Faulted name) s t =
+    (get s.heap name ≡ None) × (t.heap ≡ insert s.heap name (new_object (class_kind (fault_class P)) (zeros P (fault_class P))))
+    × (t.control ≡ unwound P (class_kind (fault_class P)) (Ref name) frames) × (t.printed ≡ s.printed)
 
 -- one remote step, of this entry
-pub record AskStep (P : ProgramTables) (service : Option ℕ) (fault : ℕ) (s : State) (e : Entry) (t : State)
+pub record AskStep (P : ProgramTables) (service : Option ℕ) (s : State) (e : Entry) (t : State)
     : Type 0 where
   pub asks : Asks P service s
   pub method : e.method ≡ asks.method
   pub args : e.args ≡ asked_args asks
   pub before : e.before ≡ s.heap
-  pub answer : AnswerStep P fault (waiting asks) e.answer s t
+  pub answer : AnswerStep P (waiting asks) e.answer s t
 
 -- k steps lead from the first state to the last; each remote call is one step, and takes the next entry
-pub data AskRun (P : ProgramTables) (service : Option ℕ) (fault : ℕ) : State → List Entry → ℕ → State → Type 0 where
-  arrived : {s : State} → AskRun P service fault s [] zero s
+pub data AskRun (P : ProgramTables) (service : Option ℕ) : State → List Entry → ℕ → State → Type 0 where
+  arrived : {s : State} → AskRun P service s [] zero s
   own : {s t : State} {calls : List Entry} {k : ℕ} (m : State) → (Asks P service s → ⊥) → Step P s m
-      → AskRun P service fault m calls k t → AskRun P service fault s calls (suc k) t
-  asked : {s t : State} {e : Entry} {calls : List Entry} {k : ℕ} (m : State) → AskStep P service fault s e m
-      → AskRun P service fault m calls k t → AskRun P service fault s (e ∷ calls) (suc k) t
+      → AskRun P service m calls k t → AskRun P service s calls (suc k) t
+  asked : {s t : State} {e : Entry} {calls : List Entry} {k : ℕ} (m : State) → AskStep P service s e m
+      → AskRun P service m calls k t → AskRun P service s (e ∷ calls) (suc k) t

@@ -21,3 +21,7 @@ pub mod Example
 pub mod Staying
 pub mod LimitedRuns
 pub mod PairedCalls
+pub mod Types
+pub mod Belonging
+pub mod TypedHeaps
+pub mod TypedAnswers

@@ -12,17 +12,17 @@ use Rattle.nr_model.specs.PairedCalls.{PairedCalls}
 use Rattle.nr_model.specs.Asks.{Asks, AskStep, Entry}
 
 -- as AskRun, where no state after a step passes a limit
-pub data LimitedRun (P : ProgramTables) (service : Option ℕ) (fault : ℕ) : State → List Entry → ℕ → State → Type 0 where
-  there : {s : State} → LimitedRun P service fault s [] zero s
+pub data LimitedRun (P : ProgramTables) (service : Option ℕ) : State → List Entry → ℕ → State → Type 0 where
+  there : {s : State} → LimitedRun P service s [] zero s
   own_step : {s t : State} {calls : List Entry} {k : ℕ} (m : State) → (Asks P service s → ⊥) → Step P s m
-      → passed P m ≡ None → LimitedRun P service fault m calls k t → LimitedRun P service fault s calls (suc k) t
-  remote_step : {s t : State} {e : Entry} {calls : List Entry} {k : ℕ} (m : State) → AskStep P service fault s e m
-      → passed P m ≡ None → LimitedRun P service fault m calls k t → LimitedRun P service fault s (e ∷ calls) (suc k) t
+      → passed P m ≡ None → LimitedRun P service m calls k t → LimitedRun P service s calls (suc k) t
+  remote_step : {s t : State} {e : Entry} {calls : List Entry} {k : ℕ} (m : State) → AskStep P service s e m
+      → passed P m ≡ None → LimitedRun P service m calls k t → LimitedRun P service s (e ∷ calls) (suc k) t
 
 -- A run of k steps leads from s to s', with these calls. Another machine has made j steps from t to t', with its own
 -- answers. After j steps the first stands in a state that is paired with t' and has no fewer cells, both have made
 -- equally many calls, and neither has passed a limit.
-pub record Follows (P : ProgramTables) (service : Option ℕ) (fault : ℕ) (ps : List (ℕ × ℕ)) (s s' : State)
+pub record Follows (P : ProgramTables) (service : Option ℕ) (ps : List (ℕ × ℕ)) (s s' : State)
     (calls : List Entry) (k : ℕ) (t t' : State) (others : List Entry) (j : ℕ) : Type 0 where
   pub state : State
   pub made : List Entry
@@ -30,9 +30,9 @@ pub record Follows (P : ProgramTables) (service : Option ℕ) (fault : ℕ) (ps 
   pub left : ℕ
   pub calls_apart : calls ≡ made ++ next
   pub steps_apart : k ≡ j + left
-  pub before : LimitedRun P service fault s made j state
-  pub after : LimitedRun P service fault state next left s'
-  pub limits : LimitedRun P service fault t others j t'
+  pub before : LimitedRun P service s made j state
+  pub after : LimitedRun P service state next left s'
+  pub limits : LimitedRun P service t others j t'
   pub as_many : length made ≡ length others
   pub paired : PairedStates ps state t'
   pub size : cells t'.heap ≤ cells state.heap

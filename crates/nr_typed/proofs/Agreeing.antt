@@ -13,10 +13,10 @@ use Rattle.nr_model.specs.Alike.{Like, like_ref, AlikeObj, no_result, one_result
 use Rattle.nr_model.proofs.Matchings.{Matched, Moved, AlikeEnding, both_go, both_threw, both_gave, both_called}
 use Rattle.nr_model.proofs.Heaps.{get_same, written, made, moved_none, moved_write, moved_make, moved_then, with_new, sum_left}
 use Rattle.nr_model.proofs.Pairing.{plain_like, plains_like, lengths, set_like, on_int, on_long, on_held, on_nullable, same_name_like}
-use Rattle.nr_typed.specs.Types.{Ty, JustNull, Exact}
-use Rattle.nr_typed.specs.Belonging.{Belongs, Sharper}
+use Rattle.nr_model.specs.Types.{Ty, JustNull, Exact}
+use Rattle.nr_model.specs.Belonging.{Belongs, Sharper}
 use Rattle.nr_model.specs.Staying.{Stays}
-use Rattle.nr_typed.specs.TypedHeaps.{slot_ty, TypedHeap}
+use Rattle.nr_model.specs.TypedHeaps.{slot_ty, TypedHeap}
 use Rattle.nr_typed.specs.Fits.{OnTy, OnAnInt, OnALong, OnSize, OnNullness, OnKinds, OnExact, without_ty, Ends, EndsTop, Fits}
 use Rattle.nr_typed.specs.Usable.{Usable}
 use Rattle.nr_model.proofs.Staying.{stays_on, stays_write, stays_make}

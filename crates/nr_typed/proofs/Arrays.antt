@@ -24,9 +24,9 @@ use Rattle.nr_model.specs.Heaps.{Heap}
 use Rattle.nr_model.specs.Scripts.{Plain, plain, PlainInt, PlainLong, Script, Push, PopInt, PopLong, Pick, Drop, AskKind, ReadSlot, WriteSlot, Within, Ending}
 use Rattle.nr_model.specs.Throws.{zero_of, throw_new, not_null, at_index, with_found, which}
 use Rattle.nr_model.specs.ArrayRules.{narrowed, storable, array_length, make_array, new_array}
-use Rattle.nr_typed.specs.Types.{Ty, Word, AnInt, JustNull, Nullable, Object, Exact, kept_ty, ty_of, operand_tys, local_tys}
-use Rattle.nr_typed.specs.Belonging.{Belongs, Sharper}
-use Rattle.nr_typed.specs.TypedHeaps.{Counts, slot_ty}
+use Rattle.nr_model.specs.Types.{Ty, Word, AnInt, JustNull, Nullable, Object, Exact, kept_ty, ty_of, operand_tys, local_tys}
+use Rattle.nr_model.specs.Belonging.{Belongs, Sharper}
+use Rattle.nr_model.specs.TypedHeaps.{Counts, slot_ty}
 use Rattle.nr_typed.specs.Fits.{OnNullness, Fits}
 use Rattle.nr_typed.proofs.Assigning.{above_zero, sub_assignable}
 use Rattle.nr_typed.proofs.Belongs.{exact_null, null_to}

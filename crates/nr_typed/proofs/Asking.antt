@@ -25,14 +25,14 @@ use Rattle.nr_model.specs.Throws.{zeros}
 use Rattle.nr_model.specs.CallRules.{operands_of}
 use Rattle.nr_model.specs.States.{Frame, Returned, State}
 use Rattle.nr_model.specs.Steps.{unwound}
-use Rattle.nr_model.specs.Asks.{Asks, waiting, Answer, Answered, Faulted, Entry, AnswerStep, AskStep, AskRun, arrived, own, asked}
+use Rattle.nr_model.specs.Asks.{Asks, waiting, Answer, Answered, Faulted, Entry, AnswerStep, AskStep, AskRun, arrived, own, asked, fault_class}
 use Rattle.nr_model.proofs.Heaps.{get_same}
-use Rattle.nr_typed.specs.Types.{operand_tys}
-use Rattle.nr_typed.specs.Belonging.{Belong, no_place, one_place}
+use Rattle.nr_model.specs.Types.{operand_tys}
+use Rattle.nr_model.specs.Belonging.{Belong, no_place, one_place, IsResult}
 use Rattle.nr_model.specs.Staying.{Stays}
-use Rattle.nr_typed.specs.TypedHeaps.{TypedHeap}
-use Rattle.nr_typed.specs.Standing.{Waits, AllWait, AllStand, IsResult, ControlStands, StandsIn}
-use Rattle.nr_typed.specs.TypedAnswers.{IsTypedAnswer, IsTypedEntry, EachTyped, entry_of}
+use Rattle.nr_model.specs.TypedHeaps.{TypedHeap}
+use Rattle.nr_typed.specs.Standing.{Waits, AllWait, AllStand, ControlStands, StandsIn}
+use Rattle.nr_model.specs.TypedAnswers.{IsTypedAnswer, IsTypedEntry, EachTyped, entry_of}
 use Rattle.nr_typed.proofs.Assigning.{yes, class_up}
 use Rattle.nr_model.proofs.Staying.{stays_make}
 use Rattle.nr_typed.proofs.Typed.{typed_make}
@@ -78,65 +78,67 @@ module _ (P : ProgramTables) (facts : TypingFacts P) (wt : WellTyped P) (result 
 
   -- ---- an answer
 
-  record Goes (fault : ℕ) (s : State) (fs : List Frame) (answer : Answer) : Type 0 where
+  record Goes (s : State) (fs : List Frame) (answer : Answer) : Type 0 where
     state : State
-    step : AnswerStep P fault fs answer s state
+    step : AnswerStep P fs answer s state
     stands_on : StandsIn P (frames P facts wt) result state
 
-  goes : (fault : ℕ) (s : State) (a : Asks P service s) → StandsIn P (frames P facts wt) result s → (answer : Answer) → IsTypedAnswer P fault s.heap a.info.result answer → Goes fault s (waiting a) answer
-  goes fault s a st (Answered after value printed) q =
+  goes : (s : State) (a : Asks P service s) → StandsIn P (frames P facts wt) result s → (answer : Answer) → IsTypedAnswer P s.heap a.info.result answer → Goes s (waiting a) answer
+  goes s a st (Answered after value printed) q =
       let g = given_ok P facts wt result after a.method a.info a.called value q.2 (waiting a) (all_wait P (frames P facts wt) s.heap after q.1 result a.method (waiting a) (all_waiting s a st)) in
       record {
         state = record { heap = after; control = g.0; printed = s.printed ++ printed };
         step = (refl, g.1, refl);
         stands_on = record { heap = q.0; control = g.2 };
       }
-  goes fault s a st (Faulted name) q =
+  goes s a st (Faulted name) q =
+      let can = facts.thrown built_ins.RemoteFault refl in
+      let fault : ℕ = fault_class P in
       let object : Obj = new_object (class_kind fault) (zeros P fault) in
       let k : Heap = insert s.heap name object in
-      let stays : Stays s.heap k = stays_make s.heap name object q.0 in
-      let thrown : T (is_assignable P (class_kind fault) (class_kind (built_in P built_ins.Throwable))) = class_up P facts fault (built_in P built_ins.Throwable) (yes (is_above P fault (built_in P built_ins.Throwable)) q.1.throwable) in
+      let stays : Stays s.heap k = stays_make s.heap name object q in
+      let thrown : T (is_assignable P (class_kind fault) (class_kind (built_in P built_ins.Throwable))) = class_up P facts fault (built_in P built_ins.Throwable) (yes (is_above P fault (built_in P built_ins.Throwable)) can.0) in
       record {
         state = record { heap = k; control = unwound P (class_kind fault) (Ref name) (waiting a); printed = s.printed };
-        step = (q.0, refl, refl, refl);
+        step = (q, refl, refl, refl);
         stands_on = record {
-          heap = typed_make P s.heap name (class_kind fault) (zeros P fault) st.heap q.0 (record { makeable = yes _ q.1.makeable; count = length_zeros P fault }) (λ h i p e. zeros_ok P h fault i p e);
+          heap = typed_make P s.heap name (class_kind fault) (zeros P fault) st.heap q (record { makeable = yes _ can.1; count = length_zeros P fault }) (λ h i p e. zeros_ok P h fault i p e);
           control = unwound_ok P facts wt result k name object (get_same s.heap name object) thrown (waiting a)
               (waiting_unwinds P facts wt result k a.method (waiting a) (all_wait_on P facts wt result s.heap k stays a.method (waiting a) (all_waiting s a st)));
         };
       }
 
   -- an answer leads to one state
-  one_state : (fault : ℕ) (s t u : State) (fs : List Frame) (answer : Answer) → AnswerStep P fault fs answer s t → AnswerStep P fault fs answer s u → (u.heap ≡ t.heap) × (u.control ≡ t.control)
-  one_state fault s t u fs (Answered after value printed) p q = (q.0 ∙ sym p.0, some_both q.1 p.1)
-  one_state fault s t u fs (Faulted name) p q = (q.1 ∙ sym p.1, q.2 ∙ sym p.2)
+  one_state : (s t u : State) (fs : List Frame) (answer : Answer) → AnswerStep P fs answer s t → AnswerStep P fs answer s u → (u.heap ≡ t.heap) × (u.control ≡ t.control)
+  one_state s t u fs (Answered after value printed) p q = (q.0 ∙ sym p.0, some_both q.1 p.1)
+  one_state s t u fs (Faulted name) p q = (q.1 ∙ sym p.1, q.2 ∙ sym p.2)
 
-  pub answer_stands : (fault : ℕ) (s t : State) (a : Asks P service s) → StandsIn P (frames P facts wt) result s → (answer : Answer) → IsTypedAnswer P fault s.heap a.info.result answer → AnswerStep P fault (waiting a) answer s t
+  pub answer_stands : (s t : State) (a : Asks P service s) → StandsIn P (frames P facts wt) result s → (answer : Answer) → IsTypedAnswer P s.heap a.info.result answer → AnswerStep P (waiting a) answer s t
       → StandsIn P (frames P facts wt) result t
-  answer_stands fault s t a st answer q step =
-      let g = goes fault s a st answer q in
-      let e = one_state fault s t g.state (waiting a) answer step g.step in
+  answer_stands s t a st answer q step =
+      let g = goes s a st answer q in
+      let e = one_state s t g.state (waiting a) answer step g.step in
       record { heap = subst (TypedHeap P) e.0 g.stands_on.heap; control = subst₂ (ControlStands P (frames P facts wt) result) e.0 e.1 g.stands_on.control }
 
   pub called_result : (s : State) (a : Asks P service s) → result_of P a.method ≡ a.info.result
   called_result s a = ap (λ o. option_and_then (λ (i : MethodInfo). i.result) o) a.called
 
-  pub asked_stands : (fault : ℕ) (s t : State) (e : Entry) → StandsIn P (frames P facts wt) result s → AskStep P service fault s e t → IsTypedEntry P fault e → StandsIn P (frames P facts wt) result t
-  asked_stands fault s t e st z q = answer_stands fault s t z.asks st e.answer
-      (subst₂ (λ h r. IsTypedAnswer P fault h r e.answer) z.before (ap (λ m. result_of P m) z.method ∙ called_result s z.asks) q) z.answer
+  pub asked_stands : (s t : State) (e : Entry) → StandsIn P (frames P facts wt) result s → AskStep P service s e t → IsTypedEntry P e → StandsIn P (frames P facts wt) result t
+  asked_stands s t e st z q = answer_stands s t z.asks st e.answer
+      (subst₂ (λ h r. IsTypedAnswer P h r e.answer) z.before (ap (λ m. result_of P m) z.method ∙ called_result s z.asks) q) z.answer
 
   -- each typed answer leads on
-  pub answered : (fault : ℕ) (s : State) (a : Asks P service s) → StandsIn P (frames P facts wt) result s → (answer : Answer) → IsTypedEntry P fault (entry_of a answer) → (t : State) × AskStep P service fault s (entry_of a answer) t
-  answered fault s a st answer q =
-      let g = goes fault s a st answer (subst (λ r. IsTypedAnswer P fault s.heap r answer) (called_result s a) q) in
+  pub answered : (s : State) (a : Asks P service s) → StandsIn P (frames P facts wt) result s → (answer : Answer) → IsTypedEntry P (entry_of a answer) → (t : State) × AskStep P service s (entry_of a answer) t
+  answered s a st answer q =
+      let g = goes s a st answer (subst (λ r. IsTypedAnswer P s.heap r answer) (called_result s a) q) in
       (g.state, record { asks = a; method = refl; args = refl; before = refl; answer = g.step })
 
-  pub ask_runs_stand : (fault k : ℕ) (s t : State) (calls : List Entry) → StandsIn P (frames P facts wt) result s → AskRun P service fault s calls k t → EachTyped P fault calls → StandsIn P (frames P facts wt) result t
-  ask_runs_stand fault k s t calls st arrived q = st
-  ask_runs_stand fault k s t calls st (own m n d r) q = ask_runs_stand fault _ m t _ (preservation P facts wt result s m st d) r q
-  ask_runs_stand fault k s t calls st (asked {e = e} m a r) q = ask_runs_stand fault _ m t _ (asked_stands fault s m e st a q.0) r q.1
+  pub ask_runs_stand : (k : ℕ) (s t : State) (calls : List Entry) → StandsIn P (frames P facts wt) result s → AskRun P service s calls k t → EachTyped P calls → StandsIn P (frames P facts wt) result t
+  ask_runs_stand k s t calls st arrived q = st
+  ask_runs_stand k s t calls st (own m n d r) q = ask_runs_stand _ m t _ (preservation P facts wt result s m st d) r q
+  ask_runs_stand k s t calls st (asked {e = e} m a r) q = ask_runs_stand _ m t _ (asked_stands s m e st a q.0) r q.1
 
   -- what a run gives that ends by a return
-  pub ask_runs_give : (fault k : ℕ) (s t : State) (calls : List Entry) (v : Option Value) → StandsIn P (frames P facts wt) result s → AskRun P service fault s calls k t → EachTyped P fault calls → t.control ≡ Returned v
+  pub ask_runs_give : (k : ℕ) (s t : State) (calls : List Entry) (v : Option Value) → StandsIn P (frames P facts wt) result s → AskRun P service s calls k t → EachTyped P calls → t.control ≡ Returned v
       → IsResult P t.heap result v
-  ask_runs_give fault k s t calls v st r q e = subst (ControlStands P (frames P facts wt) result t.heap) e (ask_runs_stand fault k s t calls st r q).control
+  ask_runs_give k s t calls v st r q e = subst (ControlStands P (frames P facts wt) result t.heap) e (ask_runs_stand k s t calls st r q).control

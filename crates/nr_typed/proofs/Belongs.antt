@@ -21,8 +21,8 @@ use Rattle.nr_linked.specs.TypingFacts.{TypingFacts}
 use Rattle.nr_model.specs.declared.value.Value.{Value}
 use Rattle.nr_model.specs.declared.value.Value.TheVariants.{Int, Long, Null, Ref}
 use Rattle.nr_model.specs.Heaps.{Obj, Heap, on_some}
-use Rattle.nr_typed.specs.Types.{Ty, Anything, Word, JustNull, Nullable, Object, Just, Exact, kind_ty, ty_of, operand_tys, local_tys}
-use Rattle.nr_typed.specs.Belonging.{Belongs, Belong, one_place, Sharper, NoLong}
+use Rattle.nr_model.specs.Types.{Ty, Anything, Word, JustNull, Nullable, Object, Just, Exact, kind_ty, ty_of, operand_tys, local_tys}
+use Rattle.nr_model.specs.Belonging.{Belongs, Belong, one_place, Sharper, NoLong}
 use Rattle.nr_typed.proofs.Assigning.{and_both, by_kind, trans, class_up}
 
 module _ (P : ProgramTables) (facts : TypingFacts P) where

@@ -12,8 +12,8 @@ use Rattle.nr_model.specs.Heaps.{Heap, on_some}
 use Rattle.nr_model.specs.States.{Frame}
 use Rattle.nr_model.specs.CallRules.{operands_of}
 use Rattle.nr_model.specs.Alike.{Like, AllLike, no_more, one_more}
-use Rattle.nr_typed.specs.Types.{Ty, Anything, Word, operand_tys, local_tys}
-use Rattle.nr_typed.specs.Belonging.{Belongs, Belong, no_place, one_place, NoLong}
+use Rattle.nr_model.specs.Types.{Ty, Anything, Word, operand_tys, local_tys}
+use Rattle.nr_model.specs.Belonging.{Belongs, Belong, no_place, one_place, NoLong}
 use Rattle.nr_typed.specs.Standing.{Holds, Stands, Waits}
 use Rattle.nr_typed.specs.Usable.{Usable, UsableLike, local_types, operand_types}
 use Rattle.nr_typed.specs.Usable as usable

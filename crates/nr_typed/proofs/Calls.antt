@@ -31,8 +31,8 @@ use Rattle.nr_model.specs.Heaps.{Heap, on_some}
 use Rattle.nr_model.specs.Scripts.{Script, Call, Drop, Within, Ending}
 use Rattle.nr_model.specs.Throws.{throw_new, with_found}
 use Rattle.nr_model.specs.CallRules.{operands_of, out_rule, built_in_rule, call, call_selected, class_of, selected_for, on_receiver, invoke_virtual, invoke_interface, invoke_special}
-use Rattle.nr_typed.specs.Types.{argument_tys, Ty, Object, Exact, kind_tys, operand_tys, local_tys}
-use Rattle.nr_typed.specs.Belonging.{one_place, Sharper, AllSharper}
+use Rattle.nr_model.specs.Types.{argument_tys, Ty, Object, Exact, kind_tys, operand_tys, local_tys}
+use Rattle.nr_model.specs.Belonging.{one_place, Sharper, AllSharper}
 use Rattle.nr_typed.specs.Fits.{Fits}
 use Rattle.nr_typed.specs.Standing.{SameNameAndDescriptor}
 use Rattle.nr_typed.proofs.Assigning.{above_zero, yes, holds, never, or_left, or_right, and_both, any_up, trans, class_up}

@@ -12,10 +12,10 @@ use Rattle.nr_model.specs.declared.value.Value.{Value}
 use Rattle.nr_model.specs.declared.value.Value.TheVariants.{Int, Long, Null, Ref}
 use Rattle.nr_model.specs.Heaps.{Obj, Heap, on_some}
 use Rattle.nr_model.specs.Locals.{copy_of, copied_value, copied_object, CopyArgs}
-use Rattle.nr_typed.specs.Types.{Ty, Anything, Word, AnInt, Small, ALong, JustNull, Nullable, Object, Just, Exact}
-use Rattle.nr_typed.specs.Belonging.{Belongs, Belong, no_place, one_place}
+use Rattle.nr_model.specs.Types.{Ty, Anything, Word, AnInt, Small, ALong, JustNull, Nullable, Object, Just, Exact}
+use Rattle.nr_model.specs.Belonging.{Belongs, Belong, no_place, one_place}
 use Rattle.nr_model.specs.Staying.{Stays}
-use Rattle.nr_typed.specs.TypedHeaps.{Counts, slot_ty, TypedHeap}
+use Rattle.nr_model.specs.TypedHeaps.{Counts, slot_ty, TypedHeap}
 use Rattle.nr_typed.proofs.Typed.{some_of, at_some, belongs_on}
 use Rattle.nr_typed.proofs.Steps.{some_same, none_some}
 

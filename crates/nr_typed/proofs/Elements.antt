@@ -21,9 +21,9 @@ use Rattle.nr_linked.specs.TypingFacts.{TypingFacts}
 use Rattle.nr_model.specs.declared.value.Value.TheVariants.{Int}
 use Rattle.nr_model.specs.Heaps.{Heap, on_some}
 use Rattle.nr_model.specs.ArrayRules.{narrowed}
-use Rattle.nr_typed.specs.Types.{Anything, Word, Nullable, kept_base, kept_ty, ty_of}
-use Rattle.nr_typed.specs.Belonging.{Belongs, Sharper}
-use Rattle.nr_typed.specs.TypedHeaps.{Counts, IsObjectOf, slot_ty}
+use Rattle.nr_model.specs.Types.{Anything, Word, Nullable, kept_base, kept_ty, ty_of}
+use Rattle.nr_model.specs.Belonging.{Belongs, Sharper}
+use Rattle.nr_model.specs.TypedHeaps.{Counts, IsObjectOf, slot_ty}
 use Rattle.nr_typed.proofs.Assigning.{yes, holds, is_true, or_cases, or_left, or_right, above_zero, array_reference, by_kind, same_primitive, below_class}
 use Rattle.nr_typed.proofs.Belongs.{null_up}
 

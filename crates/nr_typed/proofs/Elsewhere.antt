@@ -16,10 +16,10 @@ use Rattle.nr_model.specs.declared.value.Value.TheVariants.{Int, Long, Null, Ref
 use Rattle.nr_model.specs.Heaps.{Heap, on_some}
 use Rattle.nr_model.specs.CallRules.{operands_of}
 use Rattle.nr_model.specs.States.{Frame, Control, Running, Returned, Thrown, State}
-use Rattle.nr_typed.specs.Types.{Ty, Anything, Word, AnInt, Small, ALong, JustNull, Nullable, Object, Just, Exact, kind_ty, ty_of, operand_tys, local_tys}
-use Rattle.nr_typed.specs.Belonging.{Belongs, Belong, no_place, one_place}
-use Rattle.nr_typed.specs.TypedHeaps.{TypedHeap, KeepsNames}
-use Rattle.nr_typed.specs.Standing.{Holds, AllWait, IsResult, throwable, ControlStands, StandsIn}
+use Rattle.nr_model.specs.Types.{Ty, Anything, Word, AnInt, Small, ALong, JustNull, Nullable, Object, Just, Exact, kind_ty, ty_of, operand_tys, local_tys}
+use Rattle.nr_model.specs.Belonging.{Belongs, Belong, no_place, one_place, IsResult}
+use Rattle.nr_model.specs.TypedHeaps.{TypedHeap, KeepsNames}
+use Rattle.nr_typed.specs.Standing.{Holds, AllWait, throwable, ControlStands, StandsIn}
 use Rattle.nr_typed.proofs.Assigning.{by_kind}
 use Rattle.nr_typed.proofs.Typed.{some_of, at_some}
 

@@ -17,8 +17,8 @@ use Rattle.nr_model.specs.declared.value.Value.{Value}
 use Rattle.nr_model.specs.declared.value.Value.TheVariants.{Int, Long, Null, Ref}
 use Rattle.nr_model.specs.Heaps.{Heap, on_some}
 use Rattle.nr_model.specs.Steps.{spread, first_locals}
-use Rattle.nr_typed.specs.Types.{argument_tys, Ty, Anything, JustNull, Object, Just, kind_ty, kind_tys, ty_of, local_tys}
-use Rattle.nr_typed.specs.Belonging.{Belongs, Belong, no_place, one_place}
+use Rattle.nr_model.specs.Types.{argument_tys, Ty, Anything, JustNull, Object, Just, kind_ty, kind_tys, ty_of, local_tys}
+use Rattle.nr_model.specs.Belonging.{Belongs, Belong, no_place, one_place}
 use Rattle.nr_typed.proofs.Assigning.{by_kind}
 use Rattle.nr_typed.proofs.Belongs.{kind_same}
 

@@ -1,20 +1,17 @@
--- The example's instructions stand in the order of their offsets, and one of its exceptions can be thrown.
+-- The example's instructions stand in the order of their offsets.
 use Rattle.std.proofs.Common.{◌≡◌, ℕ, zero, suc, List, [], ◌∷◌, refl, subst, Bool, true, false, T, nat_lt}
 use Rattle.std.specs.Prelude.{Option, Some, None, ◌&&◌, ◌==◌, slice_get}
 use Rattle.std.proofs.Math.Facts.{eqb_yes, ltb_yes}
 use Rattle.nr_prog.specs.declared.body.instruction.Instr.{Instr}
 use Rattle.nr_prog.specs.declared.body.whole.Body.{Body}
 use Rattle.nr_prog.specs.Offsets.{RiseAbove, StandInOrder}
-use Rattle.nr_linked.specs.declared.program.built_in.BuiltIn.TheVariants.{NullPointerException}
 use Rattle.nr_linked.specs.declared.program.tables.MethodInfo.{MethodInfo}
-use Rattle.nr_linked.specs.BuiltIns.{built_in, built_in_class}
+use Rattle.nr_linked.specs.BuiltIns.{built_in_class}
 use Rattle.nr_linked.specs.BuiltInTables.{built_in_methods, built_in_method}
 use Rattle.nr_linked.specs.Layout.{CodeInOrder}
 use Rattle.nr_typed.specs.Example.{example}
-use Rattle.nr_typed.specs.TypedAnswers.{CanBeThrown}
 use Rattle.nr_typed.proofs.Assigning.{and_both}
 use Rattle.nr_typed.proofs.Steps.{none_some, some_same}
-use Rattle.nr_typed.proofs.ExampleLinked.{example_facts}
 
 do_rise : ℕ → List Instr → Bool
 do_rise at [] = true
@@ -59,6 +56,3 @@ all_example = tt
 
 pub example_in_order : CodeInOrder example
 example_in_order n m body e f = of_methods example.methods all_example n m body e f
-
-pub example_thrown : CanBeThrown example (built_in example NullPointerException)
-example_thrown = let f = example_facts.thrown NullPointerException refl in record { makeable = f.1; throwable = f.0 }

@@ -27,7 +27,7 @@ use Rattle.nr_model.specs.Heaps.{Heap, on_some}
 use Rattle.nr_model.specs.Scripts.{Script, Drop, Within, Ending}
 use Rattle.nr_model.specs.Throws.{with_found}
 use Rattle.nr_model.specs.CallRules.{built_in_rule, call, call_selected, on_receiver, invoke_special}
-use Rattle.nr_typed.specs.Types.{Ty, JustNull, Just, Exact, operand_tys, local_tys}
+use Rattle.nr_model.specs.Types.{Ty, JustNull, Just, Exact, operand_tys, local_tys}
 use Rattle.nr_typed.specs.Fits.{OnNullness, Fits}
 use Rattle.nr_typed.proofs.Assigning.{yes, holds, never, or_cases, class_up}
 use Rattle.nr_typed.proofs.Belongs.{this_initialised, new_initialised, initialised_operands, initialised_locals, Initialises}

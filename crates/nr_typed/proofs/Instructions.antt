@@ -26,7 +26,7 @@ use Rattle.nr_model.specs.Scripts.{PlainInt, PlainLong, PlainNull, GoTo, Within,
 use Rattle.nr_model.specs.Throws.{onward}
 use Rattle.nr_model.specs.ValueRules as values
 use Rattle.nr_model.specs.Rules.{script}
-use Rattle.nr_typed.specs.Types.{operand_tys, local_tys}
+use Rattle.nr_model.specs.Types.{operand_tys, local_tys}
 use Rattle.nr_typed.specs.Fits.{Fits}
 use Rattle.nr_typed.proofs.Assigning.{yes}
 use Rattle.nr_typed.proofs.Owed.{Owed}

@@ -23,7 +23,7 @@ use Rattle.nr_model.specs.Heaps.{Heap}
 use Rattle.nr_model.specs.Scripts.{Script, Within, Ending}
 use Rattle.nr_model.specs.CallRules.{call, invoke_virtual, invoke_interface, invoke_special}
 use Rattle.nr_model.specs.Rules as rules
-use Rattle.nr_typed.specs.Types.{Ty, operand_tys, local_tys}
+use Rattle.nr_model.specs.Types.{Ty, operand_tys, local_tys}
 use Rattle.nr_typed.specs.Fits.{Fits}
 use Rattle.nr_typed.proofs.Checks.{no_rule, inv_that}
 use Rattle.nr_typed.proofs.Owed.{Goes, Owed, over}

@@ -21,13 +21,13 @@ use Rattle.nr_model.specs.Steps.{within}
 use Rattle.nr_model.specs.Locals.{start_of, Local}
 use Rattle.nr_model.specs.Asks.{Asks, asked_args, waiting, Faulted, Entry, AnswerStep, AskStep, AskRun, arrived, own, asked}
 use Rattle.nr_model.specs.LocalEntries.{IsFaulted, IsOwn, Fated, AllFated}
-use Rattle.nr_typed.specs.Types.{argument_tys}
-use Rattle.nr_typed.specs.Belonging.{Belong}
+use Rattle.nr_model.specs.Types.{argument_tys}
+use Rattle.nr_model.specs.Belonging.{Belong, IsResult}
 use Rattle.nr_model.specs.Staying.{Stays}
-use Rattle.nr_typed.specs.TypedHeaps.{TypedHeap, KeepsNames}
-use Rattle.nr_typed.specs.Standing.{IsResult, ControlStands, StandsIn}
+use Rattle.nr_model.specs.TypedHeaps.{TypedHeap, KeepsNames}
+use Rattle.nr_typed.specs.Standing.{ControlStands, StandsIn}
 use Rattle.nr_model.specs.LocalEntries.{IsRestored}
-use Rattle.nr_typed.specs.TypedAnswers.{CanBeThrown, IsTypedAnswer, IsTypedEntry}
+use Rattle.nr_model.specs.TypedAnswers.{IsTypedAnswer, IsTypedEntry}
 use Rattle.nr_model.proofs.Staying.{stays_on}
 use Rattle.nr_typed.proofs.Typed.{some_of}
 use Rattle.nr_typed.proofs.Steps.{some_both, frames}
@@ -86,9 +86,9 @@ module _ (P : ProgramTables) (facts : TypingFacts P) (wt : WellTyped P) where
     -- ---- answers
 
     -- what a local run of the call left
-    left_typed : (fault : ℕ) (s t : State) (e : Entry) → StandsIn P (frames P facts wt) result s → AskStep P service fault s e t → (k : ℕ) (u : State) (v : Option Value) → Local P e.before e.method e.args k u → u.control ≡ Returned v
+    left_typed : (s t : State) (e : Entry) → StandsIn P (frames P facts wt) result s → AskStep P service s e t → (k : ℕ) (u : State) (v : Option Value) → Local P e.before e.method e.args k u → u.control ≡ Returned v
         → TypedHeap P u.heap × KeepsNames e.before u.heap × IsResult P u.heap (result_of P e.method) v
-    left_typed fault s t e st z k u v l returned =
+    left_typed s t e st z k u v l returned =
         let a = z.asks in
         let code = code_of a.info.body a.has_code in
         let is_i : method_at P e.method ≡ Some a.info = ap (λ n. method_at P n) z.method ∙ a.called in
@@ -97,28 +97,28 @@ module _ (P : ProgramTables) (facts : TypingFacts P) (wt : WellTyped P) where
         let r = local_typed e.before (subst (TypedHeap P) (sym z.before) st.heap) e.method a.info is_i code.0 code.1 e.args belong k u v l returned in
         (r.0, r.1, subst (λ o. IsResult P u.heap o v) (sym res) r.2)
 
-    pub own_typed : (fault : ℕ) (s t : State) (e : Entry) → StandsIn P (frames P facts wt) result s → AskStep P service fault s e t → IsOwn P e → IsTypedEntry P fault e
-    own_typed fault s t e st z o = subst (λ r. IsTypedAnswer P fault e.before (result_of P e.method) r) (sym o.answer) (left_typed fault s t e st z o.steps o.state o.result o.local o.returned)
+    pub own_typed : (s t : State) (e : Entry) → StandsIn P (frames P facts wt) result s → AskStep P service s e t → IsOwn P e → IsTypedEntry P e
+    own_typed s t e st z o = subst (λ r. IsTypedAnswer P e.before (result_of P e.method) r) (sym o.answer) (left_typed s t e st z o.steps o.state o.result o.local o.returned)
 
-    pub restored_is_typed : (fault : ℕ) (s t : State) (e : Entry) → StandsIn P (frames P facts wt) result s → AskStep P service fault s e t → IsRestored P e → IsTypedEntry P fault e
-    restored_is_typed fault s t e st z o =
+    pub restored_is_typed : (s t : State) (e : Entry) → StandsIn P (frames P facts wt) result s → AskStep P service s e t → IsRestored P e → IsTypedEntry P e
+    restored_is_typed s t e st z o =
         let l = o.local in
-        let r = left_typed fault s t e st z l.steps l.state l.result l.local l.returned in
-        subst (λ r. IsTypedAnswer P fault e.before (result_of P e.method) r) (sym l.answer)
+        let r = left_typed s t e st z l.steps l.state l.result l.local l.returned in
+        subst (λ r. IsTypedAnswer P e.before (result_of P e.method) r) (sym l.answer)
         (restored_typed P e.before l.state.heap l.after l.result l.value o.same r.0, restored_keeps P e.before l.state.heap l.after l.result l.value o.same r.1, restored_result P e.before l.state.heap l.after l.result l.value o.same (result_of P e.method) r.2)
 
-    fault_typed : (fault : ℕ) (s t : State) (e : Entry) → CanBeThrown P fault → AskStep P service fault s e t → IsFaulted e → IsTypedEntry P fault e
-    fault_typed fault s t e can z f =
-        let step : AnswerStep P fault (waiting z.asks) (Faulted f.0) s t = subst (λ r. AnswerStep P fault (waiting z.asks) r s t) f.1 z.answer in
-        subst₂ (λ h r. IsTypedAnswer P fault h (result_of P e.method) r) (sym z.before) (sym f.1) (step.0, can)
+    fault_typed : (s t : State) (e : Entry) → AskStep P service s e t → IsFaulted e → IsTypedEntry P e
+    fault_typed s t e z f =
+        let step : AnswerStep P (waiting z.asks) (Faulted f.0) s t = subst (λ r. AnswerStep P (waiting z.asks) r s t) f.1 z.answer in
+        subst₂ (λ h r. IsTypedAnswer P h (result_of P e.method) r) (sym z.before) (sym f.1) step.0
 
-    fated_typed : (fault : ℕ) (s t : State) (e : Entry) (b : Bool) → StandsIn P (frames P facts wt) result s → CanBeThrown P fault → AskStep P service fault s e t → Fated P b e → IsTypedEntry P fault e
-    fated_typed fault s t e true st can z f = fault_typed fault s t e can z f
-    fated_typed fault s t e false st can z f = own_typed fault s t e st z f
+    fated_typed : (s t : State) (e : Entry) (b : Bool) → StandsIn P (frames P facts wt) result s → AskStep P service s e t → Fated P b e → IsTypedEntry P e
+    fated_typed s t e true st z f = fault_typed s t e z f
+    fated_typed s t e false st z f = own_typed s t e st z f
 
-    pub fated_stand : (fault : ℕ) (faulted : ℕ → Bool) (n k : ℕ) (s t : State) (calls : List Entry) → StandsIn P (frames P facts wt) result s → CanBeThrown P fault → AskRun P service fault s calls k t → AllFated P faulted n calls
+    pub fated_stand : (faulted : ℕ → Bool) (n k : ℕ) (s t : State) (calls : List Entry) → StandsIn P (frames P facts wt) result s → AskRun P service s calls k t → AllFated P faulted n calls
         → StandsIn P (frames P facts wt) result t
-    fated_stand fault faulted n k s t calls st can arrived q = st
-    fated_stand fault faulted n k s t calls st can (own m z d r) q = fated_stand fault faulted n _ m t _ (preservation P facts wt result s m st d) can r q
-    fated_stand fault faulted n k s t calls st can (asked {e = e} m a r) q =
-        fated_stand fault faulted (suc n) _ m t _ (asked_stands P facts wt result service fault s m e st a (fated_typed fault s m e (faulted n) st can a q.0)) can r q.1
+    fated_stand faulted n k s t calls st arrived q = st
+    fated_stand faulted n k s t calls st (own m z d r) q = fated_stand faulted n _ m t _ (preservation P facts wt result s m st d) r q
+    fated_stand faulted n k s t calls st (asked {e = e} m a r) q =
+        fated_stand faulted (suc n) _ m t _ (asked_stands P facts wt result service s m e st a (fated_typed s m e (faulted n) st a q.0)) r q.1

@@ -14,7 +14,7 @@ use Rattle.nr_linked.specs.TypingFacts.{TypingFacts}
 use Rattle.nr_model.specs.Heaps.{Heap, on_some}
 use Rattle.nr_model.specs.Scripts.{Script, Drop, Within, Ending}
 use Rattle.nr_model.specs.ValueRules as scripts
-use Rattle.nr_typed.specs.Types.{Ty, Word, JustNull, Just, ty_of, operand_tys, local_tys}
+use Rattle.nr_model.specs.Types.{Ty, Word, JustNull, Just, ty_of, operand_tys, local_tys}
 use Rattle.nr_typed.specs.Fits.{OnSize, Fits}
 use Rattle.nr_typed.proofs.Checks.{inv_single, inv_size}
 use Rattle.nr_typed.proofs.Owed.{Goes, go_same, over}

@@ -19,9 +19,9 @@ use Rattle.nr_model.specs.Heaps.{Heap}
 use Rattle.nr_model.specs.Scripts.{Script, WriteSlot, Within, Ending}
 use Rattle.nr_model.specs.Throws.{throw_new}
 use Rattle.nr_model.specs.ArrayRules.{with_counts, fill, nested, new_arrays}
-use Rattle.nr_typed.specs.Types.{Ty, AnInt, Nullable, Exact, kept_ty, kept_base, operand_tys, local_tys}
-use Rattle.nr_typed.specs.Belonging.{Belongs, Sharper}
-use Rattle.nr_typed.specs.TypedHeaps.{slot_ty}
+use Rattle.nr_model.specs.Types.{Ty, AnInt, Nullable, Exact, kept_ty, kept_base, operand_tys, local_tys}
+use Rattle.nr_model.specs.Belonging.{Belongs, Sharper}
+use Rattle.nr_model.specs.TypedHeaps.{slot_ty}
 use Rattle.nr_typed.specs.Fits.{Fits}
 use Rattle.nr_typed.proofs.Assigning.{array_reference}
 use Rattle.nr_typed.proofs.Belongs.{exact_null}

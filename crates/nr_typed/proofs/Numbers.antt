@@ -25,8 +25,8 @@ use Rattle.nr_model.specs.Heaps.{Heap, on_some}
 use Rattle.nr_model.specs.Scripts.{Plain, plain, PlainInt, PlainLong, Script, GoTo, Return, ReturnTop, Push, PopInt, PopLong, Store, Drop, AskNull, AskSame, Within, Ending}
 use Rattle.nr_model.specs.Throws.{typed}
 use Rattle.nr_model.specs.ValueRules.{load, store, increment, on_ints, on_longs, not_zero, branch, target_at, target_of}
-use Rattle.nr_typed.specs.Types.{Ty, Anything, Word, AnInt, ALong, JustNull, Object, Just, ty_of, operand_tys, local_tys}
-use Rattle.nr_typed.specs.Belonging.{Belongs}
+use Rattle.nr_model.specs.Types.{Ty, Anything, Word, AnInt, ALong, JustNull, Object, Just, ty_of, operand_tys, local_tys}
+use Rattle.nr_model.specs.Belonging.{Belongs}
 use Rattle.nr_typed.specs.Fits.{OnNullness, Fits}
 use Rattle.nr_typed.proofs.Assigning.{by_kind}
 use Rattle.nr_typed.proofs.Belongs.{local_there, length_locals, letter_same, put_ok, operand_ok, kind_same}

@@ -32,9 +32,9 @@ use Rattle.nr_model.specs.Scripts.{PlainInt, Script, Throw, Push, PopInt, AskKin
 use Rattle.nr_model.specs.Throws.{zeros, throw_new, not_null, typed, with_found, which}
 use Rattle.nr_model.specs.ArrayRules.{narrowed}
 use Rattle.nr_model.specs.ObjectRules.{has_fields_of, get_field, kept_as, put_field, new_of, throw_top, check_cast, instance_of, answer}
-use Rattle.nr_typed.specs.Types.{Ty, Word, AnInt, Small, ALong, JustNull, Nullable, Object, Just, Exact, kind_ty, kept_base, kept_ty, ty_of, operand_tys, local_tys}
-use Rattle.nr_typed.specs.Belonging.{Belongs, Belong, one_place, Sharper}
-use Rattle.nr_typed.specs.TypedHeaps.{Counts, slot_ty}
+use Rattle.nr_model.specs.Types.{Ty, Word, AnInt, Small, ALong, JustNull, Nullable, Object, Just, Exact, kind_ty, kept_base, kept_ty, ty_of, operand_tys, local_tys}
+use Rattle.nr_model.specs.Belonging.{Belongs, Belong, one_place, Sharper}
+use Rattle.nr_model.specs.TypedHeaps.{Counts, slot_ty}
 use Rattle.nr_typed.specs.Fits.{OnNullness, Fits}
 use Rattle.nr_typed.proofs.Assigning.{trans, yes, and_both, by_kind, sub_assignable, class_up, below_class}
 use Rattle.nr_typed.proofs.Belongs.{object_null, exact_object, exact_null, exact_just, null_to, kind_same, forgotten_ok}

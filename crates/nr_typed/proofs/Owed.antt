@@ -35,10 +35,10 @@ use Rattle.nr_model.specs.Heaps.{Heap, on_some}
 use Rattle.nr_model.specs.Scripts.{Plain, plain, Script, GoTo, Throw, AskNull, Within, Ending, Threw, Gave, Called, OnRef}
 use Rattle.nr_model.specs.Throws.{zero_of, zeros, throw_new, typed, onward}
 use Rattle.nr_model.specs.CallRules.{operands_of}
-use Rattle.nr_typed.specs.Types.{Ty, Anything, Word, AnInt, ALong, JustNull, Nullable, Object, Just, argument_tys, kind_ty, kept_ty, ty_of, operand_tys, local_tys}
-use Rattle.nr_typed.specs.Belonging.{Belongs, Belong, one_place, Sharper, AllSharper, InRange}
+use Rattle.nr_model.specs.Types.{Ty, Anything, Word, AnInt, ALong, JustNull, Nullable, Object, Just, argument_tys, kind_ty, kept_ty, ty_of, operand_tys, local_tys}
+use Rattle.nr_model.specs.Belonging.{Belongs, Belong, one_place, Sharper, AllSharper, InRange}
 use Rattle.nr_model.specs.Staying.{Stays}
-use Rattle.nr_typed.specs.TypedHeaps.{slot_ty, TypedHeap}
+use Rattle.nr_model.specs.TypedHeaps.{slot_ty, TypedHeap}
 use Rattle.nr_typed.specs.Fits.{OnNullness, Fits}
 use Rattle.nr_typed.specs.Standing.{throwable, SameNameAndDescriptor}
 use Rattle.nr_typed.proofs.Assigning.{yes, by_kind, class_up}

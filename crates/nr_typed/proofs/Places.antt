@@ -15,10 +15,10 @@ use Rattle.nr_model.specs.Scripts.{OnTop, OnRef, OnReference, is_long, without}
 use Rattle.nr_model.specs.Alike.{Like, like_int, like_long, like_null, like_ref, AllLike, no_more, one_more}
 use Rattle.nr_model.proofs.Heaps.{like_more}
 use Rattle.nr_model.proofs.Pairing.{long_like}
-use Rattle.nr_typed.specs.Types.{Ty, Anything, Word, AnInt, Small, ALong, JustNull, Nullable, Object, Just, Exact, kept_ty}
-use Rattle.nr_typed.specs.Belonging.{Belongs, Belong, no_place, one_place, NoLong}
+use Rattle.nr_model.specs.Types.{Ty, Anything, Word, AnInt, Small, ALong, JustNull, Nullable, Object, Just, Exact, kept_ty}
+use Rattle.nr_model.specs.Belonging.{Belongs, Belong, no_place, one_place, NoLong}
 use Rattle.nr_model.specs.Staying.{Stays}
-use Rattle.nr_typed.specs.TypedHeaps.{Counts, slot_ty}
+use Rattle.nr_model.specs.TypedHeaps.{Counts, slot_ty}
 use Rattle.nr_typed.specs.Fits.{OnTy, OnAnInt, OnALong, OnSize, OnNullness, OnKinds, OnExact, without_ty}
 use Rattle.nr_typed.specs.Usable.{Usable, UsableLike}
 use Rattle.nr_typed.specs.Usable as usable

@@ -29,12 +29,12 @@ use Rattle.nr_model.specs.CallRules.{operands_of}
 use Rattle.nr_model.specs.Rules.{script}
 use Rattle.nr_model.specs.States.{Frame, Control, Running, Returned, Thrown, State, IsEnd}
 use Rattle.nr_model.specs.Steps.{unwound, next_offset, with_result, given, first_frame, script_at, within, after, StepBy, StepOf, Step, Run}
-use Rattle.nr_typed.specs.Types.{argument_tys, Word, operand_tys, local_tys}
-use Rattle.nr_typed.specs.Belonging.{Belongs, Belong, no_place, one_place}
+use Rattle.nr_model.specs.Types.{argument_tys, Word, operand_tys, local_tys}
+use Rattle.nr_model.specs.Belonging.{Belongs, Belong, no_place, one_place, IsResult}
 use Rattle.nr_model.specs.Staying.{Stays}
-use Rattle.nr_typed.specs.TypedHeaps.{TypedHeap}
+use Rattle.nr_model.specs.TypedHeaps.{TypedHeap}
 use Rattle.nr_typed.specs.Fits.{Fits}
-use Rattle.nr_typed.specs.Standing.{Stands, Waits, AllWait, AllStand, IsResult, throwable, ControlStands, StandsIn}
+use Rattle.nr_typed.specs.Standing.{Stands, Waits, AllWait, AllStand, throwable, ControlStands, StandsIn}
 use Rattle.nr_typed.proofs.Wp.{runs, ends_so}
 use Rattle.nr_model.proofs.Staying.{stays_self}
 use Rattle.nr_typed.proofs.Typed.{some_of, sound}

@@ -22,9 +22,9 @@ use Rattle.nr_model.specs.Heaps.{Heap}
 use Rattle.nr_model.specs.Scripts.{Script, Call, AskNull, AskKind, Within, Ending}
 use Rattle.nr_model.specs.Throws.{throw_new}
 use Rattle.nr_model.specs.CallRules.{operands_of, on_receiver}
-use Rattle.nr_typed.specs.Types.{argument_tys, Ty, Word, JustNull, Nullable, Object, Just, Exact, kind_tys, ty_of, operand_tys, local_tys}
-use Rattle.nr_typed.specs.Belonging.{Belongs, Belong, no_place, one_place, AllSharper}
-use Rattle.nr_typed.specs.TypedHeaps.{Counts}
+use Rattle.nr_model.specs.Types.{argument_tys, Ty, Word, JustNull, Nullable, Object, Just, Exact, kind_tys, ty_of, operand_tys, local_tys}
+use Rattle.nr_model.specs.Belonging.{Belongs, Belong, no_place, one_place, AllSharper}
+use Rattle.nr_model.specs.TypedHeaps.{Counts}
 use Rattle.nr_typed.specs.Fits.{OnNullness, Fits}
 use Rattle.nr_typed.specs.Standing.{SameNameAndDescriptor}
 use Rattle.nr_typed.proofs.Assigning.{and_both, trans}

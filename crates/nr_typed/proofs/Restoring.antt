@@ -13,10 +13,9 @@ use Rattle.nr_model.specs.Same.{OldAndResults, Same}
 use Rattle.nr_model.proofs.Matchings.{Matched}
 use Rattle.nr_model.proofs.Paths.{paired_matched}
 use Rattle.nr_model.proofs.Kept.{result_match}
-use Rattle.nr_typed.specs.Types.{Ty, Anything, Word, AnInt, Small, ALong, JustNull, Nullable, Object, Just, Exact, kind_ty}
-use Rattle.nr_typed.specs.Belonging.{Belongs}
-use Rattle.nr_typed.specs.TypedHeaps.{Counts, slot_ty, TypedHeap, KeepsNames}
-use Rattle.nr_typed.specs.Standing.{IsResult}
+use Rattle.nr_model.specs.Types.{Ty, Anything, Word, AnInt, Small, ALong, JustNull, Nullable, Object, Just, Exact, kind_ty}
+use Rattle.nr_model.specs.Belonging.{Belongs, IsResult}
+use Rattle.nr_model.specs.TypedHeaps.{Counts, slot_ty, TypedHeap, KeepsNames}
 use Rattle.nr_typed.proofs.Typed.{some_of, at_some}
 use Rattle.nr_typed.proofs.Steps.{some_same, none_some}
 use Rattle.nr_typed.proofs.Copying.{some_not_none}

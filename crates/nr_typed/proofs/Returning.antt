@@ -22,8 +22,8 @@ use Rattle.nr_linked.specs.TypingFacts.{TypingFacts, CallFacts, SiteFacts}
 use Rattle.nr_model.specs.Heaps.{Heap}
 use Rattle.nr_model.specs.Scripts.{Within, Ending}
 use Rattle.nr_model.specs.CallRules.{operands_of}
-use Rattle.nr_typed.specs.Types.{operand_tys, local_tys}
-use Rattle.nr_typed.specs.Belonging.{Belong, AllSharper}
+use Rattle.nr_model.specs.Types.{operand_tys, local_tys}
+use Rattle.nr_model.specs.Belonging.{Belong, AllSharper}
 use Rattle.nr_typed.proofs.Checks.{inv_that, inv_leaves}
 use Rattle.nr_typed.proofs.Belongs.{initialised_operands, initialised_locals}
 use Rattle.nr_typed.proofs.Receivers.{drop_past, joined, length_more}

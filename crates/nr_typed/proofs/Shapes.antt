@@ -38,7 +38,7 @@ use Rattle.nr_model.specs.ValueRules.{small_constant, pool_constant, load, store
 use Rattle.nr_model.specs.ArrayRules.{new_array}
 use Rattle.nr_model.specs.ObjectRules.{get_field, put_field, new_of, check_cast, instance_of}
 use Rattle.nr_model.specs.Rules as rules
-use Rattle.nr_typed.specs.Types.{Ty, operand_tys, local_tys}
+use Rattle.nr_model.specs.Types.{Ty, operand_tys, local_tys}
 use Rattle.nr_typed.specs.Fits.{Fits}
 use Rattle.nr_typed.proofs.Assigning.{yes}
 use Rattle.nr_typed.proofs.Checks.{no_rule}

@@ -32,9 +32,9 @@ use Rattle.nr_model.specs.Throws.{with_found, which}
 use Rattle.nr_linked.specs.ArrayKinds.{is_base}
 use Rattle.nr_model.specs.Printing.{bytes_of_units}
 use Rattle.nr_model.specs.CallRules.{operands_of, with_units, print_chars, out_rule, built_in_rule, call}
-use Rattle.nr_typed.specs.Types.{argument_tys, Ty, Word, Small, Object, Exact, kind_tys, ty_of, operand_tys, local_tys, kept_ty}
-use Rattle.nr_typed.specs.Belonging.{AllSharper}
-use Rattle.nr_typed.specs.TypedHeaps.{slot_ty}
+use Rattle.nr_model.specs.Types.{argument_tys, Ty, Word, Small, Object, Exact, kind_tys, ty_of, operand_tys, local_tys, kept_ty}
+use Rattle.nr_model.specs.Belonging.{AllSharper}
+use Rattle.nr_model.specs.TypedHeaps.{slot_ty}
 use Rattle.nr_typed.specs.Fits.{OnAnInt, Fits}
 use Rattle.nr_typed.proofs.Assigning.{trans, holds, and_both}
 use Rattle.nr_typed.proofs.Belongs.{length_operands}

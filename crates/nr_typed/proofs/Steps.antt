@@ -25,8 +25,8 @@ use Rattle.nr_model.specs.declared.value.Value.TheVariants.{Ref}
 use Rattle.nr_model.specs.Heaps.{Obj, Heap, on_some}
 use Rattle.nr_model.specs.States.{Frame, Running}
 use Rattle.nr_model.specs.Steps.{catches, first_handler, handler_at, unwound}
-use Rattle.nr_typed.specs.Types.{Word, ty_of, operand_tys, local_tys}
-use Rattle.nr_typed.specs.Belonging.{Belongs, Belong, no_place, one_place, AllSharper}
+use Rattle.nr_model.specs.Types.{Word, ty_of, operand_tys, local_tys}
+use Rattle.nr_model.specs.Belonging.{Belongs, Belong, no_place, one_place, AllSharper}
 use Rattle.nr_model.specs.Staying.{Stays}
 use Rattle.nr_typed.specs.Standing.{Holds, Stands, Waits, AllWait, ControlStands}
 use Rattle.nr_typed.proofs.Typed.{some_of, at_some, all_on}

@@ -12,11 +12,11 @@ use Rattle.nr_model.specs.declared.value.Value.TheVariants.{Int, Long, Null, Ref
 use Rattle.nr_model.specs.Heaps.{Obj, Heap}
 use Rattle.nr_model.specs.Scripts.{Plain, plain, Script, GoTo, Throw, Return, ReturnTop, Call, Stuck, Push, PopInt, PopLong, Load, Store, Pick, Drop, AskLong, AskNull, AskSame, AskKind, ReadSlot, WriteSlot, Make, Print, Within, Ending, OnReference, is_long, is_null, is_same, without, new_object, with_slot, Wp}
 use Rattle.nr_model.proofs.Heaps.{get_same, get_other}
-use Rattle.nr_typed.specs.Types.{Ty, Anything, Word, AnInt, Small, ALong, JustNull, Nullable, Object, Just, Exact}
-use Rattle.nr_typed.specs.Belonging.{Belongs, Belong, no_place, one_place, Sharper}
+use Rattle.nr_model.specs.Types.{Ty, Anything, Word, AnInt, Small, ALong, JustNull, Nullable, Object, Just, Exact}
+use Rattle.nr_model.specs.Belonging.{Belongs, Belong, no_place, one_place, Sharper}
 use Rattle.nr_model.specs.Staying.{Stays}
 use Rattle.nr_model.proofs.Staying.{stays_on, stays_write, stays_make}
-use Rattle.nr_typed.specs.TypedHeaps.{Counts, slot_ty, TypedHeap}
+use Rattle.nr_model.specs.TypedHeaps.{Counts, slot_ty, TypedHeap}
 use Rattle.nr_typed.specs.Fits.{OnTy, OnAnInt, OnALong, OnSize, OnNullness, OnKinds, OnExact, without_ty, Fits}
 
 pub some_of : {X : Type 0} (o : Option X) (P : X → Type 0) → IsSomeAnd o P → (x : X) × (o ≡ Some x) × P x

@@ -25,11 +25,11 @@ use Rattle.nr_model.specs.Steps.{handler_at, unwound, next_offset, with_result, 
 use Rattle.nr_model.specs.Alike.{like_ref, AllLike, no_more, one_more, AlikeAt, alike_at, AlikeResult, no_result, one_result}
 use Rattle.nr_model.proofs.Matchings.{AlikeEnding, both_go, both_threw, both_gave, both_called}
 use Rattle.nr_model.proofs.Frames.{locals_like}
-use Rattle.nr_typed.specs.Types.{Ty, Object, argument_tys, kind_ty, kind_tys, operand_tys, local_tys}
-use Rattle.nr_typed.specs.Belonging.{Belong, NoLong}
-use Rattle.nr_typed.specs.TypedHeaps.{TypedHeap}
+use Rattle.nr_model.specs.Types.{Ty, Object, argument_tys, kind_ty, kind_tys, operand_tys, local_tys}
+use Rattle.nr_model.specs.Belonging.{Belong, NoLong, IsResult}
+use Rattle.nr_model.specs.TypedHeaps.{TypedHeap}
 use Rattle.nr_typed.specs.Fits.{Ends}
-use Rattle.nr_typed.specs.Standing.{Holds, Stands, Waits, AllWait, AllStand, IsResult, ControlStands}
+use Rattle.nr_typed.specs.Standing.{Holds, Stands, Waits, AllWait, AllStand, ControlStands}
 use Rattle.nr_typed.specs.Usable.{Usable, UsableLike, local_types, operand_types, UsableFrame, UsableFrames, no_frame, one_frame, UsableControl, both_run, both_return, both_throw}
 use Rattle.nr_typed.specs.Usable as usable
 use Rattle.nr_typed.proofs.Assigning.{by_kind}

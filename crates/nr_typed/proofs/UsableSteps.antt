@@ -18,9 +18,9 @@ use Rattle.nr_model.proofs.Frames.{result_more}
 use Rattle.nr_model.proofs.Paths.{paired_matched, matched_paired}
 use Rattle.nr_model.proofs.Ends.{no_step}
 use Rattle.nr_model.proofs.Kept.{like_match, like_names, result_match, result_names, start_pair}
-use Rattle.nr_typed.specs.Types.{Ty, operand_tys, local_tys}
-use Rattle.nr_typed.specs.Belonging.{Belong}
-use Rattle.nr_typed.specs.TypedHeaps.{TypedHeap}
+use Rattle.nr_model.specs.Types.{Ty, operand_tys, local_tys}
+use Rattle.nr_model.specs.Belonging.{Belong}
+use Rattle.nr_model.specs.TypedHeaps.{TypedHeap}
 use Rattle.nr_typed.specs.Standing.{Stands, AllWait, ControlStands, StandsIn}
 use Rattle.nr_typed.specs.Usable.{Usable, UsableLike, no_places, one_place, local_types, operand_types, UsableFrame, UsableFrames, no_frame, one_frame, UsableControl, both_run, both_return, both_throw, AtUsable, InUsableFrames, InUsableControl, UsableStart, UsablePaired}
 use Rattle.nr_model.proofs.Staying.{stays_self}

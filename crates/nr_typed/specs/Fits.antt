@@ -7,10 +7,10 @@ use Rattle.nr_linked.specs.Subtypes.{is_assignable}
 use Rattle.nr_model.specs.declared.value.Value.{Value}
 use Rattle.nr_model.specs.Heaps.{Heap}
 use Rattle.nr_model.specs.Scripts.{Plain, plain, Script, GoTo, Throw, Return, ReturnTop, Call, Stuck, Push, PopInt, PopLong, Load, Store, Pick, Drop, AskLong, AskNull, AskSame, AskKind, ReadSlot, WriteSlot, Make, Print, Within, Ending, GoesTo, Threw, Gave, Called, OnRef}
-use Rattle.nr_typed.specs.Types.{Ty, Anything, AnInt, Small, ALong, JustNull, Nullable, Object, Just, Exact}
-use Rattle.nr_typed.specs.Belonging.{Belongs, Belong, Sharper}
+use Rattle.nr_model.specs.Types.{Ty, Anything, AnInt, Small, ALong, JustNull, Nullable, Object, Just, Exact}
+use Rattle.nr_model.specs.Belonging.{Belongs, Belong, Sharper}
 use Rattle.nr_model.specs.Staying.{Stays}
-use Rattle.nr_typed.specs.TypedHeaps.{Counts, slot_ty, TypedHeap}
+use Rattle.nr_model.specs.TypedHeaps.{Counts, slot_ty, TypedHeap}
 
 -- ---- what a type says of its values
 

@@ -18,9 +18,9 @@ use Rattle.nr_model.specs.Heaps.{Heap}
 use Rattle.nr_model.specs.CallRules.{operands_of}
 use Rattle.nr_model.specs.States.{Frame, Control, Running, Returned, Thrown, State}
 use Rattle.nr_model.specs.Steps.{first_frame}
-use Rattle.nr_typed.specs.Types.{Ty, Object, kind_ty, operand_tys, local_tys}
-use Rattle.nr_typed.specs.Belonging.{Belongs, Belong}
-use Rattle.nr_typed.specs.TypedHeaps.{TypedHeap}
+use Rattle.nr_model.specs.Types.{Ty, Object, operand_tys, local_tys}
+use Rattle.nr_model.specs.Belonging.{Belongs, Belong, IsResult}
+use Rattle.nr_model.specs.TypedHeaps.{TypedHeap}
 
 -- the frame's method, its instruction and the types there, with local variables that belong to them
 pub record Holds (P : ProgramTables) (frames : ℕ → List TypeFrame) (h : Heap) (f : Frame) : Type 0 where
@@ -71,12 +71,6 @@ AllWait P frames result h r (f ∷ fs) = Waits P frames h r f × AllWait P frame
 abbrev pub AllStand : ProgramTables → (ℕ → List TypeFrame) → Option Kind → Heap → List Frame → Type 0
 AllStand P frames result h [] = ⊥
 AllStand P frames result h (f ∷ fs) = Stands P frames h f × AllWait P frames result h f.method fs
-
--- what is returned: nothing where there is no result, and else what a result of the kind is
-abbrev pub IsResult : ProgramTables → Heap → Option Kind → Option Value → Type 0
-IsResult P h None None = Unit {0}
-IsResult P h (Some k) (Some v) = Belongs P h (kind_ty k) v
-IsResult P h result v = ⊥
 
 abbrev pub throwable : ProgramTables → Ty
 throwable P = Object (class_kind (built_in P Throwable))

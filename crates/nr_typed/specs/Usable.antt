@@ -10,7 +10,7 @@ use Rattle.nr_model.specs.Heaps.{on_some}
 use Rattle.nr_model.specs.States.{Frame, Control, Running, Returned, Thrown, State}
 use Rattle.nr_model.specs.Alike.{Like, AlikeResult, Any}
 use Rattle.nr_model.specs.Pairs.{name_in, name_at, Listed, InResults, Paired}
-use Rattle.nr_typed.specs.Types.{Ty, Anything, Word, operand_tys, local_tys}
+use Rattle.nr_model.specs.Types.{Ty, Anything, Word, operand_tys, local_tys}
 
 -- what a local variable or an operand of type Top holds isn't usable
 abbrev pub Usable : Ty → Type 0

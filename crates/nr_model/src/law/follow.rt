@@ -19,23 +19,23 @@ ghost use Rattle.nr_model.specs.LimitedRuns.{Follows, LimitedRun, NextCall};
 /// where that held before; so do the heaps of a run whose calls are restored, and each call was from a closed
 /// heap, which had its arguments. It does nothing.
 pub fn restored_calls_keep_pairs()
-    ensures kept { (p : ProgramTables) (service : Option ℕ) (fault : ℕ) (pairs : List (ℕ × ℕ)) (s t s' t' : State) (d e : Entry)
-        → PairedStates pairs s t → AskStep p service fault s d s' → AskStep p service fault t e t'
+    ensures kept { (p : ProgramTables) (service : Option ℕ) (pairs : List (ℕ × ℕ)) (s t s' t' : State) (d e : Entry)
+        → PairedStates pairs s t → AskStep p service s d s' → AskStep p service t e t'
         → IsLocal p d → IsLocal p e → PairedStates pairs s' t' }
-    ensures grown_less { (p : ProgramTables) (service : Option ℕ) (fault : ℕ) (pairs : List (ℕ × ℕ)) (s t s' t' : State) (d e : Entry)
-        → PairedStates pairs s t → AskStep p service fault s d s' → AskStep p service fault t e t'
+    ensures grown_less { (p : ProgramTables) (service : Option ℕ) (pairs : List (ℕ × ℕ)) (s t s' t' : State) (d e : Entry)
+        → PairedStates pairs s t → AskStep p service s d s' → AskStep p service t e t'
         → IsLocal p d → IsRestored p e → IsClosed t.heap
         → cells t'.heap + cells s.heap ≤ cells s'.heap + cells t.heap }
-    ensures grown { (p : ProgramTables) (service : Option ℕ) (fault : ℕ) (pairs : List (ℕ × ℕ)) (s t s' t' : State) (d e : Entry)
-        → PairedStates pairs s t → AskStep p service fault s d s' → AskStep p service fault t e t'
+    ensures grown { (p : ProgramTables) (service : Option ℕ) (pairs : List (ℕ × ℕ)) (s t s' t' : State) (d e : Entry)
+        → PairedStates pairs s t → AskStep p service s d s' → AskStep p service t e t'
         → IsRestored p d → IsRestored p e → IsClosed s.heap → IsClosed t.heap
         → cells s'.heap + cells t.heap ≡ cells t'.heap + cells s.heap }
-    ensures closed { (p : ProgramTables) (service : Option ℕ) (fault : ℕ) (t t' : State) (e : Entry)
-        → AskStep p service fault t e t' → IsRestored p e
+    ensures closed { (p : ProgramTables) (service : Option ℕ) (t t' : State) (e : Entry)
+        → AskStep p service t e t' → IsRestored p e
         → IsClosed t.heap → ((x : ℕ) → NamedIn t.control x → get t.heap x ≢ None)
         → IsClosed t'.heap × ((x : ℕ) → NamedIn t'.control x → get t'.heap x ≢ None) }
-    ensures stay_closed { (p : ProgramTables) (service : Option ℕ) (fault k : ℕ) (s t : State) (calls : List Entry)
-        → AskRun p service fault s calls k t → AllRestored p calls
+    ensures stay_closed { (p : ProgramTables) (service : Option ℕ) (k : ℕ) (s t : State) (calls : List Entry)
+        → AskRun p service s calls k t → AllRestored p calls
         → IsClosed s.heap → ((x : ℕ) → NamedIn s.control x → get s.heap x ≢ None)
         → AllClosed calls × IsClosed t.heap × ((x : ℕ) → NamedIn t.control x → get t.heap x ≢ None) }
 {}
@@ -49,32 +49,32 @@ pub fn restored_calls_keep_pairs()
 /// so does the first, with a call of the same method that is paired with the second's. Its next step, and an
 /// answer that is restored, pass no limit. It does nothing.
 pub fn restored_runs_follow()
-    ensures follows { (p : ProgramTables) (service : Option ℕ) (fault : ℕ) (pairs : List (ℕ × ℕ)) (k j : ℕ)
+    ensures follows { (p : ProgramTables) (service : Option ℕ) (pairs : List (ℕ × ℕ)) (k j : ℕ)
         (s t s' t' : State) (calls others : List Entry)
         → PairedStates pairs s t → cells t.heap ≤ cells s.heap
         → IsClosed t.heap → ((x : ℕ) → NamedIn t.control x → get t.heap x ≢ None)
-        → LimitedRun p service fault s calls k s' → IsEnd s'.control → AllLocal p calls
-        → AskRun p service fault t others j t' → AllRestored p others
-        → Follows p service fault pairs s s' calls k t t' others j }
-    ensures ends { (p : ProgramTables) (service : Option ℕ) (fault : ℕ) (pairs : List (ℕ × ℕ)) (k j : ℕ)
+        → LimitedRun p service s calls k s' → IsEnd s'.control → AllLocal p calls
+        → AskRun p service t others j t' → AllRestored p others
+        → Follows p service pairs s s' calls k t t' others j }
+    ensures ends { (p : ProgramTables) (service : Option ℕ) (pairs : List (ℕ × ℕ)) (k j : ℕ)
         (s t s' t' : State) (calls others : List Entry)
-        → Follows p service fault pairs s s' calls k t t' others j → IsEnd t'.control
+        → Follows p service pairs s s' calls k t t' others j → IsEnd t'.control
         → (k ≡ j) × (length calls ≡ length others) × PairedStates pairs s' t' × (cells t'.heap ≤ cells s'.heap) }
-    ensures goes_on { (p : ProgramTables) (service : Option ℕ) (fault : ℕ) (pairs : List (ℕ × ℕ)) (k j : ℕ)
+    ensures goes_on { (p : ProgramTables) (service : Option ℕ) (pairs : List (ℕ × ℕ)) (k j : ℕ)
         (s t s' t' : State) (calls others : List Entry)
-        → Follows p service fault pairs s s' calls k t t' others j → IsEnd s'.control → ¬ IsEnd t'.control → suc j ≤ k }
-    ensures asks { (p : ProgramTables) (service : Option ℕ) (fault : ℕ) (pairs : List (ℕ × ℕ)) (k j : ℕ)
+        → Follows p service pairs s s' calls k t t' others j → IsEnd s'.control → ¬ IsEnd t'.control → suc j ≤ k }
+    ensures asks { (p : ProgramTables) (service : Option ℕ) (pairs : List (ℕ × ℕ)) (k j : ℕ)
         (s t s' t' : State) (calls others : List Entry)
-        → Follows p service fault pairs s s' calls k t t' others j → IsEnd s'.control
+        → Follows p service pairs s s' calls k t t' others j → IsEnd s'.control
         → (a : Asks p service t') → NextCall p pairs calls others t'.heap a.method (asked_args a) }
-    ensures steps { (p : ProgramTables) (service : Option ℕ) (fault : ℕ) (pairs : List (ℕ × ℕ)) (k j : ℕ)
+    ensures steps { (p : ProgramTables) (service : Option ℕ) (pairs : List (ℕ × ℕ)) (k j : ℕ)
         (s t s' t' n : State) (calls others : List Entry)
-        → Follows p service fault pairs s s' calls k t t' others j → IsEnd s'.control
+        → Follows p service pairs s s' calls k t t' others j → IsEnd s'.control
         → ¬ Asks p service t' → Step p t' n → passed p n ≡ None }
-    ensures answers { (p : ProgramTables) (service : Option ℕ) (fault : ℕ) (pairs : List (ℕ × ℕ)) (k j : ℕ)
+    ensures answers { (p : ProgramTables) (service : Option ℕ) (pairs : List (ℕ × ℕ)) (k j : ℕ)
         (s t s' t' n : State) (calls others : List Entry) (e : Entry)
-        → Follows p service fault pairs s s' calls k t t' others j → IsEnd s'.control → AllLocal p calls
-        → AskStep p service fault t' e n → IsRestored p e → passed p n ≡ None }
+        → Follows p service pairs s s' calls k t t' others j → IsEnd s'.control → AllLocal p calls
+        → AskStep p service t' e n → IsRestored p e → passed p n ≡ None }
     ensures starts { (p : ProgramTables) (pairs : List (ℕ × ℕ)) (s t : State)
         → PairedStates pairs s t → cells t.heap ≤ cells s.heap → passed p s ≡ None → passed p t ≡ None }
 {}
@@ -82,12 +82,12 @@ pub fn restored_runs_follow()
 /// Promises that a run that keeps the limits is a run, and that one run after another is a run, with the
 /// calls of both. It does nothing.
 pub fn limited_runs_are_runs()
-    ensures joined { (p : ProgramTables) (service : Option ℕ) (fault j k : ℕ) (s m t : State) (calls more : List Entry)
-        → AskRun p service fault s calls j m → AskRun p service fault m more k t
-        → AskRun p service fault s (calls ++ more) (j + k) t }
-    ensures limited_joined { (p : ProgramTables) (service : Option ℕ) (fault j k : ℕ) (s m t : State) (calls more : List Entry)
-        → LimitedRun p service fault s calls j m → LimitedRun p service fault m more k t
-        → LimitedRun p service fault s (calls ++ more) (j + k) t }
-    ensures run { (p : ProgramTables) (service : Option ℕ) (fault k : ℕ) (s t : State) (calls : List Entry)
-        → LimitedRun p service fault s calls k t → AskRun p service fault s calls k t }
+    ensures joined { (p : ProgramTables) (service : Option ℕ) (j k : ℕ) (s m t : State) (calls more : List Entry)
+        → AskRun p service s calls j m → AskRun p service m more k t
+        → AskRun p service s (calls ++ more) (j + k) t }
+    ensures limited_joined { (p : ProgramTables) (service : Option ℕ) (j k : ℕ) (s m t : State) (calls more : List Entry)
+        → LimitedRun p service s calls j m → LimitedRun p service m more k t
+        → LimitedRun p service s (calls ++ more) (j + k) t }
+    ensures run { (p : ProgramTables) (service : Option ℕ) (k : ℕ) (s t : State) (calls : List Entry)
+        → LimitedRun p service s calls k t → AskRun p service s calls k t }
 {}

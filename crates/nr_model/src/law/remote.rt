@@ -13,9 +13,9 @@ ghost use Rattle.nr_model.specs.Pairs.{Holds, IsClosed, PairedStates};
 /// and each of whose reference arguments is restored, is matched by a run of one machine alone: the two
 /// reach paired states, so both end alike, and print the same. It does nothing.
 pub fn remote_runs_are_local()
-    ensures { (p : ProgramTables) (service : Option ℕ) (fault : ℕ) (pairs : List (ℕ × ℕ)) (k : ℕ)
+    ensures { (p : ProgramTables) (service : Option ℕ) (pairs : List (ℕ × ℕ)) (k : ℕ)
         (s t s' : State) (calls : List Entry)
-        → PairedStates pairs s t → AskRun p service fault s calls k s' → EachLocal p calls
+        → PairedStates pairs s t → AskRun p service s calls k s' → EachLocal p calls
         → (n : ℕ) × (t' : State) × Run p t n t' × PairedStates pairs s' t' }
 {}
 
@@ -23,8 +23,8 @@ pub fn remote_runs_are_local()
 /// of whose reference arguments is restored, is a run of one machine alone to the same state. It does
 /// nothing.
 pub fn own_runs_are_local()
-    ensures { (p : ProgramTables) (service : Option ℕ) (fault : ℕ) (k : ℕ) (s s' : State) (calls : List Entry)
-        → AskRun p service fault s calls k s' → EachOwn p calls → (n : ℕ) × Run p s n s' }
+    ensures { (p : ProgramTables) (service : Option ℕ) (k : ℕ) (s s' : State) (calls : List Entry)
+        → AskRun p service s calls k s' → EachOwn p calls → (n : ℕ) × Run p s n s' }
 {}
 
 /// Promises that a call that was answered by just what a local run left was answered by the same as a local
@@ -40,10 +40,10 @@ pub fn own_calls_are_local()
 /// themselves, and throw where the first met a fault: the two reach paired states, so both end alike, and
 /// print the same. What is passed by copy is copied on both sides. It does nothing.
 pub fn remote_runs_are_mirrored()
-    ensures { (p : ProgramTables) (service : Option ℕ) (fault : ℕ) (pairs : List (ℕ × ℕ)) (k : ℕ)
+    ensures { (p : ProgramTables) (service : Option ℕ) (pairs : List (ℕ × ℕ)) (k : ℕ)
         (s t s' : State) (calls : List Entry)
-        → PairedStates pairs s t → AskRun p service fault s calls k s' → EachLocalOrFaulted p calls
-        → (others : List Entry) × (t' : State) × AskRun p service fault t others k t' × Mirrors p calls others
+        → PairedStates pairs s t → AskRun p service s calls k s' → EachLocalOrFaulted p calls
+        → (others : List Entry) × (t' : State) × AskRun p service t others k t' × Mirrors p calls others
         × PairedStates pairs s' t' }
 {}
 
@@ -51,9 +51,9 @@ pub fn remote_runs_are_mirrored()
 /// same numbers from 1 on, agree where they start in paired states and both end: they make equally many
 /// steps, end alike and print the same. It does nothing.
 pub fn local_calls_end_alike()
-    ensures { (p : ProgramTables) (service : Option ℕ) (fault : ℕ) (faulted : ℕ → Bool) (pairs : List (ℕ × ℕ))
+    ensures { (p : ProgramTables) (service : Option ℕ) (faulted : ℕ → Bool) (pairs : List (ℕ × ℕ))
         (k l : ℕ) (s t s' t' : State) (calls others : List Entry)
-        → PairedStates pairs s t → AskRun p service fault s calls k s' → AskRun p service fault t others l t'
+        → PairedStates pairs s t → AskRun p service s calls k s' → AskRun p service t others l t'
         → IsEnd s'.control → IsEnd t'.control → AllFated p faulted 1 calls → AllFated p faulted 1 others
         → (k ≡ l) × PairedStates pairs s' t' }
 {}

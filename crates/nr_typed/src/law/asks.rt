@@ -10,17 +10,18 @@ ghost use Rattle.nr_model.specs.States.{IsEnd, Returned, State};
 ghost use Rattle.nr_model.specs.Steps.{Step};
 ghost use Rattle.nr_model.specs.Asks.{Answer, AskRun, AskStep, Asks, Entry};
 ghost use Rattle.nr_model.specs.LocalEntries.{AllFated, IsOwn, IsRestored};
-ghost use Rattle.nr_typed.specs.Standing.{IsResult, StandsIn};
-ghost use Rattle.nr_typed.specs.TypedAnswers.{CanBeThrown, EachTyped, IsTypedEntry, entry_of};
+ghost use Rattle.nr_typed.specs.Standing.{StandsIn};
+ghost use Rattle.nr_model.specs.TypedAnswers.{EachTyped, IsTypedEntry, entry_of};
+ghost use Rattle.nr_model.specs.Belonging.{IsResult};
 
 /// Promises that a remote call of a well-typed program, from a state that stands in its heap, leads to a
 /// state that stands, for the same result of the first method, where its answer is typed: a typed heap that
 /// keeps the names of the old one with their kinds, and a value that is the called method's result; or a
-/// fault, of a class that can be thrown. It does nothing.
+/// fault, under a new name. It does nothing.
 pub fn answers_stand()
-    ensures { (p : ProgramTables) (service : Option ℕ) (fault : ℕ) (result : Option Kind) (s t : State) (e : Entry)
+    ensures { (p : ProgramTables) (service : Option ℕ) (result : Option Kind) (s t : State) (e : Entry)
         → TypingFacts p → (typed : WellTyped p)
-        → StandsIn p typed.frames result s → AskStep p service fault s e t → IsTypedEntry p fault e
+        → StandsIn p typed.frames result s → AskStep p service s e t → IsTypedEntry p e
         → StandsIn p typed.frames result t }
 {}
 
@@ -29,15 +30,15 @@ pub fn answers_stand()
 /// where it ends by a return, it gives nothing if there is no result, and else a value that belongs to the
 /// verifier's type of the result, in the heap then. It does nothing.
 pub fn ask_runs_stand()
-    ensures stands { (p : ProgramTables) (service : Option ℕ) (fault : ℕ) (result : Option Kind) (k : ℕ)
+    ensures stands { (p : ProgramTables) (service : Option ℕ) (result : Option Kind) (k : ℕ)
         (s t : State) (calls : List Entry)
         → TypingFacts p → (typed : WellTyped p)
-        → StandsIn p typed.frames result s → AskRun p service fault s calls k t → EachTyped p fault calls
+        → StandsIn p typed.frames result s → AskRun p service s calls k t → EachTyped p calls
         → StandsIn p typed.frames result t }
-    ensures results { (p : ProgramTables) (service : Option ℕ) (fault : ℕ) (result : Option Kind) (k : ℕ)
+    ensures results { (p : ProgramTables) (service : Option ℕ) (result : Option Kind) (k : ℕ)
         (s t : State) (calls : List Entry) (v : Option Value)
         → TypingFacts p → (typed : WellTyped p)
-        → StandsIn p typed.frames result s → AskRun p service fault s calls k t → EachTyped p fault calls
+        → StandsIn p typed.frames result s → AskRun p service s calls k t → EachTyped p calls
         → t.control ≡ Returned v → IsResult p t.heap result v }
 {}
 
@@ -49,32 +50,32 @@ pub fn ask_runs_go_on()
         → TypingFacts p → (typed : WellTyped p)
         → StandsIn p typed.frames result s → ¬ IsEnd s.control
         → Asks p service s ⊎ (¬ Asks p service s × ((t : State) × Step p s t)) }
-    ensures answers { (p : ProgramTables) (service : Option ℕ) (fault : ℕ) (result : Option Kind) (s : State)
+    ensures answers { (p : ProgramTables) (service : Option ℕ) (result : Option Kind) (s : State)
         (asks : Asks p service s) (answer : Answer)
         → TypingFacts p → (typed : WellTyped p)
-        → StandsIn p typed.frames result s → IsTypedEntry p fault (entry_of asks answer)
-        → (t : State) × AskStep p service fault s (entry_of asks answer) t }
+        → StandsIn p typed.frames result s → IsTypedEntry p (entry_of asks answer)
+        → (t : State) × AskStep p service s (entry_of asks answer) t }
 {}
 
 /// Promises that an answer is typed where it is just what a local run of the method left, with copies of what
 /// is passed by copy; and where it is the same but for names, in a heap with no other names than the old ones
-/// and those of what is reached, as a restore leaves. So from a state that stands in its heap, a run whose remote calls are local runs
-/// themselves, but meet faults at some calls, of a class that can be thrown, leads to a state that stands. It
+/// and those of what is reached, as a restore leaves. So from a state that stands in its heap, a run whose
+/// remote calls are local runs themselves, but meet faults at some calls, leads to a state that stands. It
 /// does nothing.
 pub fn local_answers_are_typed()
-    ensures own { (p : ProgramTables) (service : Option ℕ) (fault : ℕ) (result : Option Kind) (s t : State)
+    ensures own { (p : ProgramTables) (service : Option ℕ) (result : Option Kind) (s t : State)
         (e : Entry)
         → TypingFacts p → (typed : WellTyped p)
-        → StandsIn p typed.frames result s → AskStep p service fault s e t → IsOwn p e
-        → IsTypedEntry p fault e }
-    ensures restored { (p : ProgramTables) (service : Option ℕ) (fault : ℕ) (result : Option Kind) (s t : State)
+        → StandsIn p typed.frames result s → AskStep p service s e t → IsOwn p e
+        → IsTypedEntry p e }
+    ensures restored { (p : ProgramTables) (service : Option ℕ) (result : Option Kind) (s t : State)
         (e : Entry)
         → TypingFacts p → (typed : WellTyped p)
-        → StandsIn p typed.frames result s → AskStep p service fault s e t → IsRestored p e
-        → IsTypedEntry p fault e }
-    ensures runs { (p : ProgramTables) (service : Option ℕ) (fault : ℕ) (faulted : ℕ → Bool)
+        → StandsIn p typed.frames result s → AskStep p service s e t → IsRestored p e
+        → IsTypedEntry p e }
+    ensures runs { (p : ProgramTables) (service : Option ℕ) (faulted : ℕ → Bool)
         (result : Option Kind) (n k : ℕ) (s t : State) (calls : List Entry)
         → TypingFacts p → (typed : WellTyped p)
-        → StandsIn p typed.frames result s → AskRun p service fault s calls k t → CanBeThrown p fault
+        → StandsIn p typed.frames result s → AskRun p service s calls k t
         → AllFated p faulted n calls → StandsIn p typed.frames result t }
 {}

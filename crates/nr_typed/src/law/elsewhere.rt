@@ -7,7 +7,7 @@ ghost use Rattle.nr_linked.specs.TypingFrames.{TypeFrame};
 ghost use Rattle.nr_model.specs.Heaps.{Heap};
 ghost use Rattle.nr_model.specs.States.{State};
 ghost use Rattle.nr_typed.specs.Standing.{StandsIn, with_heap};
-ghost use Rattle.nr_typed.specs.TypedHeaps.{KeepsNames, TypedHeap};
+ghost use Rattle.nr_model.specs.TypedHeaps.{KeepsNames, TypedHeap};
 
 /// Promises that a state that stands in its heap stands in each typed heap that has the same names with
 /// their kinds, and perhaps further names. It does nothing.

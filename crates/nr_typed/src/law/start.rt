@@ -11,10 +11,10 @@ ghost use Rattle.nr_model.specs.declared.value.Value.{Value};
 ghost use Rattle.nr_model.specs.Heaps.{Heap};
 ghost use Rattle.nr_model.specs.States.{Returned, State};
 ghost use Rattle.nr_model.specs.Steps.{Run};
-ghost use Rattle.nr_typed.specs.Belonging.{Belong};
-ghost use Rattle.nr_typed.specs.Standing.{IsResult, StandsIn, first_state};
-ghost use Rattle.nr_typed.specs.TypedHeaps.{TypedHeap};
-ghost use Rattle.nr_typed.specs.Types.{argument_tys};
+ghost use Rattle.nr_model.specs.Belonging.{Belong, IsResult};
+ghost use Rattle.nr_typed.specs.Standing.{StandsIn, first_state};
+ghost use Rattle.nr_model.specs.TypedHeaps.{TypedHeap};
+ghost use Rattle.nr_model.specs.Types.{argument_tys};
 
 /// Promises that the first state of a method with code stands for its result, where the heap is typed and
 /// the arguments, the last first, belong to the method's parameters and its receiver's class. So a run from

@@ -1,4 +1,4 @@
-use Rattle.nr_typed.proofs.ExampleOrder.{example_in_order, example_thrown}
+use Rattle.nr_typed.proofs.ExampleOrder.{example_in_order}
 use Rattle.nr_typed.proofs.ExampleLinked.{example_facts}
 use Rattle.nr_typed.proofs.ExampleTyped.{example_typed}
 use Rattle.nr_typed.proofs.law.example.premises_can_be_met.Goals as goal
@@ -11,6 +11,3 @@ returns-clause-typed c = example_typed
 
 pub returns-clause-order : goal.returns-clause-order
 returns-clause-order c = example_in_order
-
-pub returns-clause-fault : goal.returns-clause-fault
-returns-clause-fault c = example_thrown

@@ -11,7 +11,7 @@ use Rattle.nr_model.specs.declared.value.Value.{Value}
 use Rattle.nr_model.specs.declared.value.Value.TheVariants.{Long, Null}
 use Rattle.nr_model.specs.Heaps.{Heap}
 use Rattle.nr_model.specs.Scripts.{OnInt, OnLong, OnRef, OnReference}
-use Rattle.nr_typed.specs.Types.{Ty, Anything, Word, AnInt, Small, ALong, JustNull, Nullable, Object, Just, Exact}
+use Rattle.nr_model.specs.Types.{Ty, Anything, Word, AnInt, Small, ALong, JustNull, Nullable, Object, Just, Exact, kind_ty}
 
 -- the range of a primitive type (2.3.1, 2.3.4)
 abbrev pub InRange : Base → ℤ → Type 0
@@ -53,6 +53,12 @@ Belongs P h (Exact k n) v = OnRef v (λ a. IsSomeAnd (get h a) (λ o. (o.kind �
 pub data Belong (P : ProgramTables) (h : Heap) : List Ty → List Value → Type 0 where
   no_place : Belong P h [] []
   one_place : {t : Ty} {v : Value} {ts : List Ty} {vs : List Value} → Belongs P h t v → Belong P h ts vs → Belong P h (t ∷ ts) (v ∷ vs)
+
+-- what is returned: nothing where there is no result, and else what a result of the kind is
+abbrev pub IsResult : ProgramTables → Heap → Option Kind → Option Value → Type 0
+IsResult P h None None = Unit {0}
+IsResult P h (Some k) (Some v) = Belongs P h (kind_ty k) v
+IsResult P h result v = ⊥
 
 -- each value of t is one of u, in each heap
 abbrev pub Sharper : ProgramTables → Ty → Ty → Type 0

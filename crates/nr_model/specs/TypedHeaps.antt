@@ -10,8 +10,8 @@ use Rattle.nr_linked.specs.Subtypes.{is_assignable}
 use Rattle.nr_linked.specs.TypingFacts.{is_makeable}
 use Rattle.nr_model.specs.declared.value.Value.{Value}
 use Rattle.nr_model.specs.Heaps.{Obj, Heap, on_some}
-use Rattle.nr_typed.specs.Types.{Ty, Anything, kept_ty}
-use Rattle.nr_typed.specs.Belonging.{Belongs}
+use Rattle.nr_model.specs.Types.{Ty, Anything, kept_ty}
+use Rattle.nr_model.specs.Belonging.{Belongs}
 
 -- an object of the class has n slots, and the class can have objects
 pub record IsObjectOf (P : ProgramTables) (c n : ℕ) : Type 0 where
