@@ -140,3 +140,6 @@ module _ (P : ProgramTables) where
   outcome_asks s t b n f (further m {budget = c} {n = i} d e o) =
       let r = outcome_asks m t c i f o in
       record { made = suc r.made; run = own_step m (no_service s) d e r.run; stops = after_one c r.made i (Settled f) t r.stops }
+
+  pub alone_asks_outcome : (s t : State) (calls : List Entry) (b n : ℕ) (f : AskFate) → (calls ≡ []) × ((g : Fate) × (f ≡ Settled g) × Outcome P s b n g t) → AskOutcome P None s calls b n f t
+  alone_asks_outcome s t calls b n f o = subst₂ (λ es f. AskOutcome P None s es b n f t) (sym o.0) (sym o.1.1) (outcome_asks s t b n o.1.0 o.1.2)

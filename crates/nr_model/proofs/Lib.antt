@@ -38,3 +38,6 @@ pub mod Counting
 pub mod Limits
 pub mod AskOutcomes
 pub mod Printed
+pub mod Fates
+pub mod PairedEnds
+pub mod TypedClosed

@@ -130,6 +130,12 @@ module _ (P : ProgramTables) where
     printed_grows k l xs ys (at_last {t = u} {n = n} {fate = f} o j) (at_last {t = v} {n = h} {fate = g} q i) le =
         goes_on_same u.printed v.printed (outcomes_alike P R s s u v b n h f g level o q).level.alike.printed
 
+    pub printed_once : (k : ℕ) (xs ys : List ℕ) → PrintedAfter P s b k xs → PrintedAfter P s b k ys → xs ≡ ys
+    printed_once k xs ys (so_far {t = m} r i) (so_far {t = u} q j) = same_length R s s m u k a (limited_run s m [] k r) (limited_run s u [] k q)
+    printed_once k xs ys (so_far {t = m} r i) (at_last {t = u} {n = n} {fate = f} o j) = at_outcome R s s m u [] k b n f level r i o j
+    printed_once k xs ys (at_last {t = u} {n = n} {fate = f} o j) (so_far {t = m} r i) = sym (at_outcome R s s m u [] k b n f level r i o j)
+    printed_once k xs ys (at_last {t = u} {n = n} {fate = f} o j) (at_last {t = v} {n = h} {fate = g} q i) = (outcomes_alike P R s s u v b n h f g level o q).level.alike.printed
+
     pub printed_ends : (k n : ℕ) (f : Fate) (t : State) (xs : List ℕ) → PrintedAfter P s b k xs → Outcome P s b n f t → n ≤ k → xs ≡ t.printed
     printed_ends k n f t xs (so_far {t = m} r i) o le = at_outcome R s s m t [] k b n f level r i o le
     printed_ends k n f t xs (at_last {t = u} {n = h} {fate = g} q i) o le = (outcomes_alike P R s s u t b h n g f level q o).level.alike.printed
@@ -204,6 +210,12 @@ module _ (P : ProgramTables) (h : Heap) (m : ℕ) (args : List Value) (closed : 
   call_printed_grows b k l xs ys (none_begun s p d) (some_begun t q e r) le = absurd (differ s t p q d e)
   call_printed_grows b k l xs ys (some_begun s p d r) (none_begun t q e) le = absurd (differ t s q p e d)
   call_printed_grows b k l xs ys (some_begun s p d r) (some_begun t q e u) le = printed_grows P R s (begins_alike s p) b k l xs ys r (moved b l s t ys p q u) le
+
+  pub call_printed_once : (b k : ℕ) (xs ys : List ℕ) → CallPrintedAfter P h m args b k xs → CallPrintedAfter P h m args b k ys → xs ≡ ys
+  call_printed_once b k xs ys (none_begun s p d) (none_begun t q e) = refl
+  call_printed_once b k xs ys (none_begun s p d) (some_begun t q e r) = absurd (differ s t p q d e)
+  call_printed_once b k xs ys (some_begun s p d r) (none_begun t q e) = absurd (differ t s q p e d)
+  call_printed_once b k xs ys (some_begun s p d r) (some_begun t q e u) = printed_once P R s (begins_alike s p) b k xs ys r (moved b k s t ys p q u)
 
   pub call_printed_ends : (b k n : ℕ) (f : Fate) (t : State) (xs : List ℕ) → CallPrintedAfter P h m args b k xs → CallOutcome P h m args b n f t → n ≤ k → xs ≡ t.printed
   call_printed_ends b k n f t xs (none_begun s p d) (too_deep q e) le = go (method_at P m) q
