@@ -10,3 +10,4 @@ pub mod Restored
 pub mod BoxRun
 pub mod BoxCopied
 pub mod BoxRestored
+pub mod BoxAsked
