@@ -1,11 +1,11 @@
 -- Runs and outcomes of machines that may ask: after a run within the limits, and without a service.
-use Rattle.std.proofs.Common.{◌≡◌, ℕ, zero, suc, ◌+◌, ◌-◌, ◌<◌, ◌≤◌, List, [], ◌∷◌, ◌++◌, refl, sym, ap, subst, subst₂, ◌∙◌, arith}
+use Rattle.std.proofs.Common.{◌≡◌, ℕ, zero, suc, ◌+◌, ◌-◌, ◌≤◌, List, [], ◌∷◌, ◌++◌, refl, sym, ap, subst, subst₂, ◌∙◌, arith}
 use Rattle.std.specs.Prelude.{Option, Some, None, false, true}
 use Rattle.nr_linked.specs.declared.program.tables.ProgramTables.{ProgramTables}
 use Rattle.nr_model.specs.States.{State, IsEnd}
-use Rattle.nr_model.specs.Steps.{Step, Run}
+use Rattle.nr_model.specs.Steps.{Run}
 use Rattle.nr_model.specs.Outcomes.{Fate, Ended, BudgetSpent, passed, Outcome, ended, spent, limited, further}
-use Rattle.nr_model.specs.Asks.{Asks, AskStep, Entry, AskRun, arrived, own, asked}
+use Rattle.nr_model.specs.Asks.{Asks, Entry, AskRun, arrived, own, asked}
 use Rattle.nr_model.specs.LimitedRuns.{LimitedRun, there, own_step, remote_step}
 use Rattle.nr_model.specs.AskOutcomes.{AskFate, Settled, Unanswered, Stops, at_end, at_budget, at_limit, at_answer, at_call, AskOutcome}
 use Rattle.nr_model.proofs.Outcomes.{passes_no_end}

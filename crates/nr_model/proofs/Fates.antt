@@ -1,6 +1,5 @@
 -- Mirrored calls have the fates of the first.
-use Rattle.std.proofs.Common.{◌≡◌, ℕ, suc, List, [], ◌∷◌, refl, sym, subst, ◌∙◌, Bool, true, false}
-use Rattle.std.specs.Prelude.{Option}
+use Rattle.std.proofs.Common.{◌≡◌, ℕ, suc, List, refl, Bool, true, false}
 use Rattle.nr_linked.specs.declared.program.tables.ProgramTables.{ProgramTables}
 use Rattle.nr_model.specs.Asks.{Answer, Answered, Faulted, Entry}
 use Rattle.nr_model.specs.LocalEntries.{IsLocal, IsFaulted, IsOwn, FaultedWhere, Fated, AllFated, Mirrors, no_call, answered_call, faulted_call}

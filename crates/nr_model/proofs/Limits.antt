@@ -1,5 +1,5 @@
 -- What a run within the limits leaves passes none, and so does what an outcome leaves.
-use Rattle.std.proofs.Common.{◌≡◌, ℕ, ◌≤◌, List, [], length, refl, sym, ap, subst, ◌∙◌, arith, Bool, true, false}
+use Rattle.std.proofs.Common.{◌≡◌, ℕ, ◌≤◌, List, [], length, refl, sym, ap, subst, arith, Bool, true, false}
 use Rattle.std.specs.Prelude.{Option, Some, None, IsSomeAnd, nat_lt, if◌then◌else◌}
 use Rattle.std.proofs.lemmas.Bool.{le-ltb, ltb-false}
 use Rattle.nr_linked.specs.declared.program.tables.MethodInfo.{MethodInfo}
@@ -7,7 +7,7 @@ use Rattle.nr_linked.specs.declared.program.tables.ProgramTables.{ProgramTables}
 use Rattle.nr_linked.specs.Programs.{method_at}
 use Rattle.nr_model.specs.declared.value.Value.{Value}
 use Rattle.nr_model.specs.Heaps.{Heap, cells}
-use Rattle.nr_model.specs.States.{State, IsEnd}
+use Rattle.nr_model.specs.States.{State}
 use Rattle.nr_model.specs.Locals.{start_of, Begins, CallRun}
 use Rattle.nr_model.specs.Outcomes.{max_cells, max_printed, is_too_deep, Fate, Ended, HeapFull, TooDeep, OutputTooLong, passed, Outcome, ended, spent, limited, further, CallOutcome, too_deep, begun}
 use Rattle.nr_model.specs.Asks.{Entry}

@@ -2,11 +2,10 @@
 use Rattle.std.proofs.Common.{◌≡◌, ◌≢◌, ℕ, [], refl, sym, ap, subst, ◌∙◌}
 use Rattle.std.specs.Prelude.{List, Option, Some, None}
 use Rattle.std.specs.FinMap.{get}
-use Rattle.nr_linked.specs.declared.program.kind.Kind.{Kind}
 use Rattle.nr_model.specs.declared.value.Value.{Value}
 use Rattle.nr_model.specs.declared.value.Value.TheVariants.{Int, Long, Null, Ref}
 use Rattle.nr_model.specs.Heaps.{Obj}
-use Rattle.nr_model.specs.States.{Frame, Control, Running, Returned, Thrown, State}
+use Rattle.nr_model.specs.States.{Control, Running, Returned, Thrown, State}
 use Rattle.nr_model.specs.Alike.{Like, like_int, like_long, like_null, like_ref, AlikeAt, alike_at, AlikeControl, both_run, both_return, both_throw}
 use Rattle.nr_model.specs.Pairs.{IsClosed, NamedIn, PairedStates}
 use Rattle.nr_model.proofs.Matchings.{AlikeState}

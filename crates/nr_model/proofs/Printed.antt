@@ -1,5 +1,5 @@
 -- What runs and outcomes from states that agree have printed: the longer has what the shorter has, and perhaps more.
-use Rattle.std.proofs.Common.{◌≡◌, ◌≢◌, ℕ, zero, suc, ◌+◌, ◌≤◌, ◌⊎◌, List, [], ◌∷◌, ◌++◌, refl, sym, ap, subst, ◌∙◌, arith, inl, inr, Bool, true, false}
+use Rattle.std.proofs.Common.{◌≡◌, ◌≢◌, ℕ, zero, suc, ◌≤◌, ◌⊎◌, List, [], ◌∷◌, ◌++◌, refl, sym, ap, subst, ◌∙◌, arith, inl, inr, Bool, true, false}
 use Rattle.std.specs.Prelude.{Option, Some, None, IsSomeAnd}
 use Rattle.std.specs.FinMap.{get}
 use Rattle.std.proofs.lemmas.List.{append-nil, append_assoc}
@@ -14,7 +14,7 @@ use Rattle.nr_model.specs.Pairs.{Holds, IsClosed, NamedIn}
 use Rattle.nr_model.specs.Scripts.{Script}
 use Rattle.nr_model.specs.Steps.{script_at, StepBy, StepOf, Step, Run}
 use Rattle.nr_model.specs.Locals.{start_of, Begins}
-use Rattle.nr_model.specs.Outcomes.{is_too_deep, Fate, passed, Outcome, ended, spent, limited, further, CallOutcome, too_deep, begun}
+use Rattle.nr_model.specs.Outcomes.{is_too_deep, Fate, Outcome, ended, spent, limited, further, CallOutcome, too_deep, begun}
 use Rattle.nr_model.specs.Asks.{Entry}
 use Rattle.nr_model.specs.LimitedRuns.{LimitedRun, there, own_step, remote_step}
 use Rattle.nr_model.specs.Printed.{PrintedAfter, so_far, at_last, CallPrintedAfter, none_begun, some_begun}
@@ -25,7 +25,7 @@ use Rattle.nr_model.proofs.Runs.{LaterState, steps_paired, runs_paired}
 use Rattle.nr_model.proofs.Ends.{no_step, end_back}
 use Rattle.nr_model.proofs.Reached.{Self, list_self, control_self}
 use Rattle.nr_model.proofs.Closed.{closed_matched}
-use Rattle.nr_model.proofs.Outcomes.{passed_alike, Level, LaterFate, level_after, outcomes_alike, begins_one}
+use Rattle.nr_model.proofs.Outcomes.{passed_alike, Level, level_after, outcomes_alike, begins_one}
 use Rattle.nr_model.proofs.AskOutcomes.{no_service}
 
 -- the second has what the first has, and perhaps more

@@ -7,7 +7,6 @@ use Rattle.nr_linked.specs.declared.program.kind.Base.TheVariants as bases
 use Rattle.nr_linked.specs.declared.program.kind.Kind.{Kind}
 use Rattle.nr_linked.specs.declared.program.tables.MethodInfo.{MethodInfo}
 use Rattle.nr_linked.specs.declared.program.tables.ProgramTables.{ProgramTables}
-use Rattle.nr_linked.specs.declared.program.tables.SlotInfo.{SlotInfo}
 use Rattle.nr_linked.specs.Kinds.{class_kind, is_reference}
 use Rattle.nr_linked.specs.Slots.{slots_of}
 use Rattle.nr_prog.specs.Members.{is_static}
@@ -15,10 +14,10 @@ use Rattle.nr_linked.specs.Subtypes.{is_assignable}
 use Rattle.nr_model.specs.declared.value.Value.{Value}
 use Rattle.nr_model.specs.declared.value.Value.TheVariants.{Int, Long, Null, Ref}
 use Rattle.nr_model.specs.Heaps.{Obj, Heap, on_some}
-use Rattle.nr_model.specs.Pairs.{name_in, name_at, slot_name, Holds, IsClosed}
-use Rattle.nr_model.specs.Types.{Ty, Anything, AnInt, Small, ALong, Nullable, Object, of_base, kept_base, kind_ty, kind_tys, kept_ty, argument_tys}
+use Rattle.nr_model.specs.Pairs.{name_in, name_at, Holds, IsClosed}
+use Rattle.nr_model.specs.Types.{Ty, Anything, Nullable, Object, of_base, kept_base, kind_ty, kind_tys, kept_ty, argument_tys}
 use Rattle.nr_model.specs.Belonging.{NamesOne, Belongs, Belong, no_place, one_place, IsResult}
-use Rattle.nr_model.specs.TypedHeaps.{IsObjectOf, Counts, slot_ty, TypedHeap}
+use Rattle.nr_model.specs.TypedHeaps.{Counts, slot_ty, TypedHeap}
 use Rattle.nr_model.proofs.Paths.{none_some, some_eq}
 
 -- a value at a place that holds a name is a reference

@@ -27,9 +27,7 @@ pub use outcome::{
     ended_outcomes_are_runs, outcomes_keep_limits, outcomes_keep_pairs, smaller_heaps_do_as_well,
 };
 pub use over::runs_go_on_over_frames;
-pub use pair::{
-    closed_states_pair_with_themselves, paired_ends_throw_one_class, runs_keep_pairs,
-};
+pub use pair::{closed_states_pair_with_themselves, paired_ends_throw_one_class, runs_keep_pairs};
 pub use print::{calls_print_in_order, runs_print_in_order};
 pub use reach::runs_change_what_they_reach;
 pub use remote::{

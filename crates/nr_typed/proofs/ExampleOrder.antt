@@ -1,5 +1,5 @@
 -- The example's instructions stand in the order of their offsets.
-use Rattle.std.proofs.Common.{◌≡◌, ℕ, zero, suc, List, [], ◌∷◌, refl, subst, Bool, true, false, T, nat_lt}
+use Rattle.std.proofs.Common.{◌≡◌, ℕ, zero, suc, List, [], ◌∷◌, subst, Bool, true, false, T, nat_lt}
 use Rattle.std.specs.Prelude.{Option, Some, None, ◌&&◌, ◌==◌, slice_get}
 use Rattle.std.proofs.Math.Facts.{eqb_yes, ltb_yes}
 use Rattle.nr_prog.specs.declared.body.instruction.Instr.{Instr}

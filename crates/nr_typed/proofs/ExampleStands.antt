@@ -1,7 +1,7 @@
 -- A state of the example stands in its heap.
 use Rattle.std.proofs.Common.{◌≡◌, ℕ, zero, suc, [], ◌∷◌, refl, sym, subst, ◌∙◌, T}
-use Rattle.std.specs.Prelude.{pos, Some, None, IsSomeAnd, slice_get}
-use Rattle.std.specs.FinMap.{get, empty, get-empty}
+use Rattle.std.specs.Prelude.{pos, Some, IsSomeAnd, slice_get}
+use Rattle.std.specs.FinMap.{empty, get-empty}
 use Rattle.std.specs.Ordering.{nat_cmp}
 use Rattle.nr_linked.specs.BuiltIns.{built_in_class}
 use Rattle.nr_linked.specs.BuiltInTables.{built_in_infos, built_in_info}

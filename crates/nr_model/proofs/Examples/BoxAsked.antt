@@ -1,11 +1,9 @@
 -- A machine that makes the worked call as a remote call, within the limits.
 use Rattle.std.proofs.Common.{◌≡◌, ◌≢◌, ℕ, ◌≤◌, List, [], ◌∷◌, refl, sym, ap, subst, ◌∙◌, arith, inl, inr}
 use Rattle.std.specs.Prelude.{Option, Some, None, IsSomeAnd, ◌==◌, true, false}
-use Rattle.std.specs.FinMap.{get, find, empty, get-empty}
+use Rattle.std.specs.FinMap.{get, empty, get-empty}
 use Rattle.std.specs.Ordering.{nat_cmp}
 use Rattle.nr_optable.specs.Rows.{all_rows}
-use Rattle.nr_linked.specs.BuiltIns.{built_in_class}
-use Rattle.nr_linked.specs.BuiltInTables.{built_in_infos, built_in_info, built_in_methods, built_in_method}
 use Rattle.nr_linked.specs.declared.program.tables.MethodInfo.{MethodInfo}
 use Rattle.nr_linked.specs.declared.program.tables.ProgramTables.{ProgramTables}
 use Rattle.nr_linked.specs.Programs.{method_at}
@@ -18,14 +16,13 @@ use Rattle.nr_model.specs.States.{Frame, Running, State}
 use Rattle.nr_model.specs.Steps.{script_at, Step}
 use Rattle.nr_model.specs.Pairs.{NamedIn, PairedStates}
 use Rattle.nr_model.specs.Outcomes.{max_cells, passed}
-use Rattle.nr_model.specs.Asks.{Answer, Answered, Faulted, Asks, AskStep, AskRun}
+use Rattle.nr_model.specs.Asks.{Faulted, Asks, AskStep, AskRun}
 use Rattle.nr_model.specs.LimitedRuns.{LimitedRun, there, own_step, remote_step}
 use Rattle.nr_model.specs.LocalEntries.{IsFaulted, IsOwn, FaultedWhere, Mirrors, no_call, answered_call, faulted_call as both_faulted}
 use Rattle.nr_model.specs.Example.{example, main, before, left, restored, heap, args, answered, call, own_call, faulted_call, service, main_start, main_end, end_with}
 use Rattle.nr_model.proofs.Cells.{cells_insert_less}
 use Rattle.nr_model.proofs.Counting.{all_counted}
 use Rattle.nr_model.proofs.Following.{limited_is_run}
-use Rattle.nr_model.proofs.Heaps.{sum_left}
 use Rattle.nr_model.proofs.Limits.{passes_none}
 use Rattle.nr_model.proofs.ListedHeaps.{there as found, each_ref}
 use Rattle.nr_model.proofs.PairedEnds.{closed_pair}
