@@ -44,7 +44,8 @@ pub fn calls_print_in_order()
     ensures one_text { (p : ProgramTables) (h : Heap) (m : ℕ) (args : List Value) (budget k : ℕ) (xs ys : List ℕ)
         → IsClosed h → ((x : ℕ) → Holds args x → get h x ≢ None)
         → CallPrintedAfter p h m args budget k xs → CallPrintedAfter p h m args budget k ys → xs ≡ ys }
-    ensures ends { (p : ProgramTables) (h : Heap) (m : ℕ) (args : List Value) (budget k n : ℕ) (f : Fate) (t : State) (xs : List ℕ)
+    ensures ends { (p : ProgramTables) (h : Heap) (m : ℕ) (args : List Value) (budget k n : ℕ) (f : Fate) (t : State)
+        (xs : List ℕ)
         → IsClosed h → ((x : ℕ) → Holds args x → get h x ≢ None)
         → CallPrintedAfter p h m args budget k xs → CallOutcome p h m args budget n f t → n ≤ k → xs ≡ t.printed }
     ensures comes { (p : ProgramTables) (h : Heap) (m : ℕ) (args : List Value) (budget n k : ℕ) (f : Fate) (t : State)
