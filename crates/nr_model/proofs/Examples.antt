@@ -11,3 +11,4 @@ pub mod BoxRun
 pub mod BoxCopied
 pub mod BoxRestored
 pub mod BoxAsked
+pub mod BoxRelayed

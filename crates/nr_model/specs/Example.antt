@@ -4,7 +4,9 @@
 -- The first two arguments are one array, which the call restores; the third is passed by copy, and its row is shared with
 -- that array. The call cuts the first row loose, puts a new one in its place, and returns its copy of the box.
 --     static void main(int[][] a, int[][] b, Box c) { call(a, b, c); }
--- Where class Box is the service, main makes this one remote call.
+--     static int[][] same(int[][] a) { return a; }
+--     static void relay(int[][] a) { same(a); }
+-- Where class Box is the service, main makes this one remote call, and relay one whose only argument is restored.
 use Rattle.std.specs.Prelude.{ℕ, List, [], ◌∷◌, map, find, ◌==◌, pos, Option, Some, None, codes}
 use Rattle.std.specs.Option.{unwrap_or}
 use Rattle.std.specs.FinMap.{from_entries}
@@ -20,6 +22,7 @@ use Rattle.nr_linked.specs.declared.program.kind.Kind.{Kind}
 use Rattle.nr_linked.specs.declared.program.tables.ClassInfo.{ClassInfo}
 use Rattle.nr_linked.specs.declared.program.tables.MethodInfo.{MethodInfo}
 use Rattle.nr_linked.specs.declared.program.tables.ProgramTables.{ProgramTables}
+use Rattle.nr_linked.specs.declared.program.tables.Resolved.{Resolved}
 use Rattle.nr_linked.specs.declared.program.tables.Resolved.TheVariants.{Method, Nothing, Slot}
 use Rattle.nr_linked.specs.declared.program.tables.SlotInfo.{SlotInfo}
 use Rattle.nr_linked.specs.BuiltInTables.{built_in_infos, built_in_methods}
@@ -56,7 +59,7 @@ box_class = record {
   supers = 0 ∷ 1 ∷ [];
   slots = slot (codes "row") (codes "[I") 1 ∷ slot (codes "value") (codes "I") 0 ∷ [];
   first_method = 0;
-  methods = 2;
+  methods = 4;
   read = None;
 }
 
@@ -107,8 +110,34 @@ main = record {
   maps = [];
 }
 
+-- a public static method of one array of rows, without handlers
+abbrev pub of_rows : List ℕ → List ℕ → Option Kind → List Instr → List Resolved → MethodInfo
+of_rows name desc result instrs found = record {
+  «class» = 0;
+  name = name;
+  desc = desc;
+  flags = 0x0009;
+  params = ints 2 ∷ [];
+  result = result;
+  max_stack = 1;
+  max_locals = 1;
+  body = Some (record { instrs = instrs; handlers = []; maps = [] });
+  resolved = found;
+  catches = [];
+  maps = [];
+}
+
+-- aload_0, areturn
+abbrev pub same : MethodInfo
+same = of_rows (codes "same") (codes "([[I)[[I") (Some (ints 2)) (at 0 42 Empty ∷ at 1 176 Empty ∷ []) (Nothing ∷ Nothing ∷ [])
+
+-- aload_0, invokestatic same, pop, return
+abbrev pub relay : MethodInfo
+relay = of_rows (codes "relay") (codes "([[I)V") None (at 0 42 Empty ∷ at 1 184 (Pool 2) ∷ at 4 87 Empty ∷ at 5 177 Empty ∷ [])
+    (Nothing ∷ Method 2 0 ∷ Nothing ∷ Nothing ∷ [])
+
 abbrev pub example : ProgramTables
-example = record { classes = box_class ∷ built_in_infos 1 2; methods = method ∷ main ∷ built_in_methods 1 }
+example = record { classes = box_class ∷ built_in_infos 1 4; methods = method ∷ main ∷ same ∷ relay ∷ built_in_methods 1 }
 
 -- ---- the heaps, as lists of names and objects
 
@@ -194,3 +223,11 @@ main_start = start_of main 1 (heap before) args
 
 abbrev pub main_end : List (ℕ × Obj) → State
 main_end es = record { heap = heap es; control = Returned None; printed = [] }
+
+-- ---- a machine that runs relay
+
+abbrev pub same_call : Entry
+same_call = record { method = 2; args = Ref 1 ∷ []; before = heap before; answer = Answered (heap before) (Some (Ref 1)) [] }
+
+abbrev pub relay_start : State
+relay_start = start_of relay 3 (heap before) (Ref 1 ∷ [])

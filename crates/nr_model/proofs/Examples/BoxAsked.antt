@@ -66,7 +66,7 @@ end_keeps es l = passes_none example (main_end es) (record { size = in_size es l
 -- another instruction than invokestatic asks for nothing
 module _ (P : ProgramTables) (asked : Option ℕ) (s : State) (f : Frame) (fs : List Frame) (i : MethodInfo) (x : Site) (running : s.control ≡ Running (f ∷ fs))
     (method : method_at P f.method ≡ Some i) (site : site_at i f.offset ≡ Some x) where
-  asks_nothing : (x.instr.row.code ≡ 184 → ⊥) → Asks P asked s → ⊥
+  pub asks_nothing : (x.instr.row.code ≡ 184 → ⊥) → Asks P asked s → ⊥
   asks_nothing other a =
       let same : f ≡ a.frame = top (sym running ∙ a.running) in
       let caller : i ≡ a.caller = some_eq (sym method ∙ ap (λ (f : Frame). method_at P f.method) same ∙ a.calling) in
@@ -84,13 +84,13 @@ Goes o es us p vs = IsSomeAnd (script_at example 1 o) (λ sc. Runs sc (left_in (
 goes : (o : ℕ) (es : List (ℕ × Obj)) (us : List Value) (p : ℕ) (vs : List Value) → Goes o es us p vs → Step example (at es o us) (at es p vs)
 goes o es us p vs r = some_map (script_at example 1 o) _ _ (λ sc r. record { ending = GoesTo p; left = left_in (heap es) locals vs []; runs = r; control = refl; heap = refl; printed = refl }) r
 
-module _ (es : List (ℕ × Obj)) where
-  not_184 : (n : ℕ) → (n == 184) ≡ false → n ≡ 184 → ⊥
-  not_184 n f e = bad (sym f ∙ ap (λ n. n == 184) e)
-    where
-      bad : false ≡ true → ⊥
-      bad e = cc
+pub not_184 : (n : ℕ) → (n == 184) ≡ false → n ≡ 184 → ⊥
+not_184 n f e = bad (sym f ∙ ap (λ n. n == 184) e)
+  where
+    bad : false ≡ true → ⊥
+    bad e = cc
 
+module _ (es : List (ℕ × Obj)) where
   no_ask_at_0 : (us : List Value) → Asks example service (at es 0 us) → ⊥
   unfolding all_rows
   no_ask_at_0 us = asks_nothing example service (at es 0 us) (frame 0 us) [] main _ refl refl refl (not_184 42 refl)

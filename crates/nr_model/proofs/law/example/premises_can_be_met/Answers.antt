@@ -1,6 +1,7 @@
 use Rattle.nr_model.proofs.Examples.BoxCopied.{copies_made, run_here, run_there, local_run}
 use Rattle.nr_model.proofs.Examples.BoxRestored.{start_alike, all_listed, closed, restores, left_the_same, call_is_local, call_is_restored}
 use Rattle.nr_model.proofs.Examples.BoxAsked.{answered_run, own_run, own_entry, mirrored, one_faulted, itself}
+use Rattle.nr_model.proofs.Examples.BoxRelayed.{each_local, each_own, relay_run}
 use Rattle.nr_model.proofs.law.example.premises_can_be_met.Goals as goal
 
 pub returns-clause-copies : goal.returns-clause-copies
@@ -53,3 +54,9 @@ returns-clause-mirrored c = mirrored
 
 pub returns-clause-faulted : goal.returns-clause-faulted
 returns-clause-faulted c = one_faulted
+
+pub returns-clause-restored_args : goal.returns-clause-restored_args
+returns-clause-restored_args c = (each_local, each_own)
+
+pub returns-clause-restored_args_run : goal.returns-clause-restored_args_run
+returns-clause-restored_args_run c = relay_run
