@@ -1,18 +1,17 @@
 -- A machine that makes a remote call whose only argument is restored.
-use Rattle.std.proofs.Common.{◌≡◌, ◌≢◌, ℕ, List, [], ◌∷◌, refl, sym, arith}
+use Rattle.std.proofs.Common.{◌≢◌, ℕ, List, [], ◌∷◌, refl, sym, arith}
 use Rattle.std.specs.Prelude.{Some, None, IsSomeAnd}
 use Rattle.std.specs.FinMap.{get}
 use Rattle.nr_optable.specs.Rows.{all_rows}
 use Rattle.nr_linked.specs.BuiltIns.{built_in_class}
 use Rattle.nr_linked.specs.BuiltInTables.{built_in_infos, built_in_info, built_in_methods, built_in_method}
-use Rattle.nr_linked.specs.declared.program.tables.MethodInfo.{MethodInfo}
 use Rattle.nr_model.specs.declared.value.Value.{Value}
 use Rattle.nr_model.specs.declared.value.Value.TheVariants.{Ref}
 use Rattle.nr_model.specs.Scripts.{GoesTo, Gave, Runs}
 use Rattle.nr_model.specs.States.{Frame, Returned, State}
 use Rattle.nr_model.specs.Steps.{script_at, Step}
 use Rattle.nr_model.specs.Pairs.{Holds}
-use Rattle.nr_model.specs.Locals.{RestorableRoot, CallRun, Local}
+use Rattle.nr_model.specs.Locals.{RestorableRoot, CallRun}
 use Rattle.nr_model.specs.Asks.{Asks, AskStep, AskRun, arrived, own, asked}
 use Rattle.nr_model.specs.LocalEntries.{AllRestorable, IsOwn, EachLocal, EachOwn}
 use Rattle.nr_model.specs.Example.{example, same, relay, rows, before, heap, same_call, service, relay_start, main_end}
