@@ -1,5 +1,5 @@
 -- What a write and a new object do to the cells.
-use Rattle.std.proofs.Common.{◌≡◌, ℕ, ◌+◌, List, [], ◌∷◌, length, refl, ap, ◌∙◌, arith, Bool, true, false, cond, T, Ordering}
+use Rattle.std.proofs.Common.{◌≡◌, ℕ, ◌+◌, ◌≤◌, List, [], ◌∷◌, length, refl, ap, ◌∙◌, arith, Bool, true, false, cond, T, Ordering}
 use Rattle.std.specs.Prelude.{Option, Some, None, ◌&&◌}
 use Rattle.std.specs.Ordering.{nat_cmp, is_eq, is_lt}
 use Rattle.std.specs.declared.cmp.Ordering.TheVariants.{Less, Equal, Greater}
@@ -47,6 +47,9 @@ total_put k v (e ∷ es) h =
 
 cells_insert : (h : Heap) (k : ℕ) (v : Obj) → cells (insert h k v) + found (get h k) ≡ cells h + cells_of v
 cells_insert h k v = rw (entries-insert nat_cmp_total h k v, get-entries h k) (total_put k v (entries h) (entries_sorted h))
+
+pub cells_insert_less : (h : Heap) (k : ℕ) (v : Obj) → cells (insert h k v) ≤ cells h + cells_of v
+cells_insert_less h k v = let e = cells_insert h k v in omega (arith, e)
 
 pub cells_new : (h : Heap) (k : ℕ) (v : Obj) → get h k ≡ None → cells (insert h k v) ≡ cells h + cells_of v
 cells_new h k v n = let e = cells_insert h k v in let f : found (get h k) ≡ 0 = rw n refl in omega arith

@@ -10,3 +10,5 @@ pub mod Restored
 pub mod BoxRun
 pub mod BoxCopied
 pub mod BoxRestored
+pub mod BoxAsked
+pub mod BoxRelayed

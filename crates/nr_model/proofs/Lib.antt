@@ -35,3 +35,9 @@ pub mod Lone
 pub mod Following
 pub mod Completing
 pub mod Counting
+pub mod Limits
+pub mod AskOutcomes
+pub mod Printed
+pub mod Fates
+pub mod PairedEnds
+pub mod TypedClosed

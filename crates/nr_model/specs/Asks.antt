@@ -78,7 +78,8 @@ abbrev pub AnswerStep : ProgramTables → List Frame → Answer → State → St
 AnswerStep P frames (Answered after value printed) s t =
     (t.heap ≡ after) × (given P value frames ≡ Some t.control) × (t.printed ≡ s.printed ++ printed)
 AnswerStep P frames (Faulted name) s t =
-    (get s.heap name ≡ None) × (t.heap ≡ insert s.heap name (new_object (class_kind (fault_class P)) (zeros P (fault_class P))))
+    (get s.heap name ≡ None)
+    × (t.heap ≡ insert s.heap name (new_object (class_kind (fault_class P)) (zeros P (fault_class P))))
     × (t.control ≡ unwound P (class_kind (fault_class P)) (Ref name) frames) × (t.printed ≡ s.printed)
 
 -- one remote step, of this entry

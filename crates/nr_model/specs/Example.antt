@@ -3,7 +3,11 @@
 --     static Box call(int[][] a, int[][] b, Box c) { a[0][0] = 5; b[0] = new int[1]; c.value = 3; return c; }
 -- The first two arguments are one array, which the call restores; the third is passed by copy, and its row is shared with
 -- that array. The call cuts the first row loose, puts a new one in its place, and returns its copy of the box.
-use Rattle.std.specs.Prelude.{ℕ, List, [], ◌∷◌, map, find, ◌==◌, pos, Some, None, codes}
+--     static void main(int[][] a, int[][] b, Box c) { call(a, b, c); }
+--     static int[][] same(int[][] a) { return a; }
+--     static void relay(int[][] a) { same(a); }
+-- Where class Box is the service, main makes this one remote call, and relay one whose only argument is restored.
+use Rattle.std.specs.Prelude.{ℕ, List, [], ◌∷◌, map, find, ◌==◌, pos, Option, Some, None, codes}
 use Rattle.std.specs.Option.{unwrap_or}
 use Rattle.std.specs.FinMap.{from_entries}
 use Rattle.nr_optable.specs.Rows.{op, none, all_rows}
@@ -18,7 +22,8 @@ use Rattle.nr_linked.specs.declared.program.kind.Kind.{Kind}
 use Rattle.nr_linked.specs.declared.program.tables.ClassInfo.{ClassInfo}
 use Rattle.nr_linked.specs.declared.program.tables.MethodInfo.{MethodInfo}
 use Rattle.nr_linked.specs.declared.program.tables.ProgramTables.{ProgramTables}
-use Rattle.nr_linked.specs.declared.program.tables.Resolved.TheVariants.{Nothing, Slot}
+use Rattle.nr_linked.specs.declared.program.tables.Resolved.{Resolved}
+use Rattle.nr_linked.specs.declared.program.tables.Resolved.TheVariants.{Method, Nothing, Slot}
 use Rattle.nr_linked.specs.declared.program.tables.SlotInfo.{SlotInfo}
 use Rattle.nr_linked.specs.BuiltInTables.{built_in_infos, built_in_methods}
 use Rattle.nr_linked.specs.Kinds.{class_kind}
@@ -27,7 +32,7 @@ use Rattle.nr_model.specs.declared.value.Value.TheVariants.{Int, Ref}
 use Rattle.nr_model.specs.Heaps.{Obj, Heap}
 use Rattle.nr_model.specs.States.{Returned, State}
 use Rattle.nr_model.specs.Locals.{start_of}
-use Rattle.nr_model.specs.Asks.{Answered, Entry}
+use Rattle.nr_model.specs.Asks.{Answered, Faulted, Entry}
 
 -- ---- the program
 
@@ -54,7 +59,7 @@ box_class = record {
   supers = 0 ∷ 1 ∷ [];
   slots = slot (codes "row") (codes "[I") 1 ∷ slot (codes "value") (codes "I") 0 ∷ [];
   first_method = 0;
-  methods = 1;
+  methods = 4;
   read = None;
 }
 
@@ -84,8 +89,55 @@ method = record {
   maps = [];
 }
 
+abbrev pub main : MethodInfo
+main = record {
+  «class» = 0;
+  name = codes "main";
+  desc = codes "([[I[[ILBox;)V";
+  flags = 0x0009;
+  params = ints 2 ∷ ints 2 ∷ class_kind 0 ∷ [];
+  result = None;
+  max_stack = 3;
+  max_locals = 3;
+  body = Some (record {
+    -- aload_0, aload_1, aload_2, invokestatic call, pop, return
+    instrs = at 0 42 Empty ∷ at 1 43 Empty ∷ at 2 44 Empty ∷ at 3 184 (Pool 1) ∷ at 6 87 Empty ∷ at 7 177 Empty ∷ [];
+    handlers = [];
+    maps = [];
+  });
+  resolved = Nothing ∷ Nothing ∷ Nothing ∷ Method 0 0 ∷ Nothing ∷ Nothing ∷ [];
+  catches = [];
+  maps = [];
+}
+
+-- a public static method of one array of rows, without handlers
+abbrev pub of_rows : List ℕ → List ℕ → Option Kind → List Instr → List Resolved → MethodInfo
+of_rows name desc result instrs found = record {
+  «class» = 0;
+  name = name;
+  desc = desc;
+  flags = 0x0009;
+  params = ints 2 ∷ [];
+  result = result;
+  max_stack = 1;
+  max_locals = 1;
+  body = Some (record { instrs = instrs; handlers = []; maps = [] });
+  resolved = found;
+  catches = [];
+  maps = [];
+}
+
+-- aload_0, areturn
+abbrev pub same : MethodInfo
+same = of_rows (codes "same") (codes "([[I)[[I") (Some (ints 2)) (at 0 42 Empty ∷ at 1 176 Empty ∷ []) (Nothing ∷ Nothing ∷ [])
+
+-- aload_0, invokestatic same, pop, return
+abbrev pub relay : MethodInfo
+relay = of_rows (codes "relay") (codes "([[I)V") None (at 0 42 Empty ∷ at 1 184 (Pool 2) ∷ at 4 87 Empty ∷ at 5 177 Empty ∷ [])
+    (Nothing ∷ Method 2 0 ∷ Nothing ∷ Nothing ∷ [])
+
 abbrev pub example : ProgramTables
-example = record { classes = box_class ∷ built_in_infos 1 1; methods = method ∷ built_in_methods 1 }
+example = record { classes = box_class ∷ built_in_infos 1 4; methods = method ∷ main ∷ same ∷ relay ∷ built_in_methods 1 }
 
 -- ---- the heaps, as lists of names and objects
 
@@ -145,6 +197,37 @@ start es vs = start_of method 0 (heap es) vs
 abbrev pub end_with : List (ℕ × Obj) → ℕ → State
 end_with es name = record { heap = heap es; control = Returned (Some (Ref name)); printed = [] }
 
--- the remote call, as it was answered
+-- the remote call, as it was answered with a heap and the name of a box
+abbrev pub answered : List (ℕ × Obj) → ℕ → Entry
+answered es name = record { method = 0; args = args; before = heap before; answer = Answered (heap es) (Some (Ref name)) [] }
+
+-- by the restore
 abbrev pub call : Entry
-call = record { method = 0; args = args; before = heap before; answer = Answered (heap restored) (Some (Ref 9)) [] }
+call = answered restored 9
+
+-- by the local run itself
+abbrev pub own_call : Entry
+own_call = answered left 6
+
+-- the same call, met by a fault
+abbrev pub faulted_call : Entry
+faulted_call = record { method = 0; args = args; before = heap before; answer = Faulted 6 }
+
+-- ---- a machine that runs main, and asks class 0
+
+abbrev pub service : Option ℕ
+service = Some 0
+
+abbrev pub main_start : State
+main_start = start_of main 1 (heap before) args
+
+abbrev pub main_end : List (ℕ × Obj) → State
+main_end es = record { heap = heap es; control = Returned None; printed = [] }
+
+-- ---- a machine that runs relay
+
+abbrev pub same_call : Entry
+same_call = record { method = 2; args = Ref 1 ∷ []; before = heap before; answer = Answered (heap before) (Some (Ref 1)) [] }
+
+abbrev pub relay_start : State
+relay_start = start_of relay 3 (heap before) (Ref 1 ∷ [])

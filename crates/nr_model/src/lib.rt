@@ -7,12 +7,16 @@ mod law;
 mod value;
 
 pub use law::{
-    cells_are_counted, ended_outcomes_are_runs, heaps_stay_closed, limited_runs_are_runs,
-    local_calls_end_alike, local_runs_without_copies, lone_arguments_start_alike,
-    outcomes_keep_pairs, own_calls_are_local, own_runs_are_local, paired_calls_go_alike,
-    paired_heaps_have_one_size, parts_are_paired, premises_can_be_met, remote_runs_are_local,
-    remote_runs_are_mirrored, restored_calls_keep_pairs, restored_runs_follow, restores_are_local,
+    calls_print_in_order, cells_are_counted, closed_states_pair_with_themselves,
+    ended_outcomes_are_runs, heaps_stay_closed, limited_runs_are_runs, local_calls_end_alike,
+    local_runs_without_copies, lone_arguments_start_alike, machines_without_service_never_ask,
+    mirrored_calls_have_the_fates_of_the_first, outcomes_come_of_limited_runs,
+    outcomes_keep_limits, outcomes_keep_pairs, own_calls_are_local, own_runs_are_local,
+    paired_calls_go_alike, paired_ends_throw_one_class, paired_heaps_have_one_size,
+    parts_are_paired, premises_can_be_met, remote_runs_are_local, remote_runs_are_mirrored,
+    restored_calls_keep_pairs, restored_runs_follow, restores_are_local,
     runs_change_what_they_reach, runs_go_on_over_frames, runs_keep_lengths, runs_keep_pairs,
-    scripts_do_what_they_promise, smaller_heaps_do_as_well,
+    runs_print_in_order, scripts_do_what_they_promise, smaller_heaps_do_as_well,
+    typed_heaps_are_closed,
 };
 pub use value::{Ref, Value};

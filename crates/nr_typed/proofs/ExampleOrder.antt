@@ -1,29 +1,15 @@
-<<<<<<< HEAD
--- The example's instructions stand in the order of their offsets, and one of its exceptions can be thrown.
-use Rattle.std.proofs.Common.{◌≡◌, ℕ, zero, suc, List, [], ◌∷◌, refl, subst, Bool, true, false, T, nat_lt}
-=======
 -- The example's instructions stand in the order of their offsets.
-use Rattle.std.proofs.Common.{◌≡◌, ℕ, zero, suc, List, [], ◌∷◌, refl, subst, Bool, true, T, nat_lt}
->>>>>>> f6946a51628428d14e48c0ba797f58dfc1a2d06a
+use Rattle.std.proofs.Common.{◌≡◌, ℕ, zero, suc, List, [], ◌∷◌, subst, Bool, true, false, T, nat_lt}
 use Rattle.std.specs.Prelude.{Option, Some, None, ◌&&◌, ◌==◌, slice_get}
 use Rattle.std.proofs.Math.Facts.{eqb_yes, ltb_yes}
 use Rattle.nr_prog.specs.declared.body.instruction.Instr.{Instr}
 use Rattle.nr_prog.specs.declared.body.whole.Body.{Body}
-<<<<<<< HEAD
 use Rattle.nr_prog.specs.Offsets.{RiseAbove, StandInOrder}
-use Rattle.nr_linked.specs.declared.program.built_in.BuiltIn.TheVariants.{NullPointerException}
-=======
->>>>>>> f6946a51628428d14e48c0ba797f58dfc1a2d06a
 use Rattle.nr_linked.specs.declared.program.tables.MethodInfo.{MethodInfo}
 use Rattle.nr_linked.specs.BuiltIns.{built_in_class}
 use Rattle.nr_linked.specs.BuiltInTables.{built_in_methods, built_in_method}
 use Rattle.nr_linked.specs.Layout.{CodeInOrder}
 use Rattle.nr_typed.specs.Example.{example}
-<<<<<<< HEAD
-use Rattle.nr_typed.specs.TypedAnswers.{CanBeThrown}
-=======
-use Rattle.nr_typed.specs.Offsets.{RiseAbove, AreInOrder, CodeInOrder}
->>>>>>> f6946a51628428d14e48c0ba797f58dfc1a2d06a
 use Rattle.nr_typed.proofs.Assigning.{and_both}
 use Rattle.nr_typed.proofs.Steps.{none_some, some_same}
 

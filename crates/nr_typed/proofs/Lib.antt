@@ -40,3 +40,4 @@ pub mod ExampleFacts
 pub mod ExampleMethods
 pub mod ExampleLinked
 pub mod ExampleOrder
+pub mod ExampleStands

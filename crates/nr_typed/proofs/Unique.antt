@@ -1,5 +1,5 @@
 -- The frames of a well-typed method are unique, where its instructions stand in order.
-use Rattle.std.proofs.Common.{◌≡◌, ℕ, ◌+◌, ◌<◌, List, [], ◌∷◌, length, refl, sym, ap, subst, subst₂, ◌∙◌, Bool, true, false, arith, T}
+use Rattle.std.proofs.Common.{◌≡◌, ℕ, ◌<◌, List, [], ◌∷◌, length, refl, sym, ap, subst, subst₂, ◌∙◌, Bool, true, false, arith, T}
 use Rattle.std.specs.Prelude.{Option, Some, None, IsSome, if◌then◌else◌, ◌==◌}
 use Rattle.std.specs.Option.{option_map_or, option_and_then}
 use Rattle.std.proofs.Math.Facts.{eqb_yes, yes_eqb}

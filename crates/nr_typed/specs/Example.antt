@@ -1,7 +1,9 @@
 -- A small program: class 0 has an int field, an initialiser, a method m and a static main; class 1 extends it, implements
 -- the interface 2 and overrides m. Its main makes an object of class 1 and calls m by the interface, and a handler
 -- catches all.
-use Rattle.std.specs.Prelude.{ℕ, List, [], ◌∷◌, Option, Some, None, Bool, true, false, codes}
+use Rattle.std.specs.Prelude.{ℕ, pos, List, [], ◌∷◌, ◌++◌, Option, Some, None, Bool, true, false, codes, slice_get}
+use Rattle.std.specs.Option.{option_map_or}
+use Rattle.std.specs.FinMap.{empty, insert}
 use Rattle.nr_optable.specs.Rows.{op, none, one}
 use Rattle.nr_optable.specs.declared.table.Row.{Row}
 use Rattle.nr_optable.specs.declared.table.Family.TheVariants.{F2, F3, F6, F12, F13, F30, F32, F33}
@@ -26,9 +28,11 @@ use Rattle.nr_linked.specs.declared.program.types.VType.TheVariants.{Int, Uninit
 use Rattle.nr_linked.specs.Kinds.{class_kind}
 use Rattle.nr_linked.specs.BuiltInTables.{built_in_infos, built_in_methods}
 use Rattle.nr_linked.specs.TypingFrames.{TypeFrame}
-use Rattle.std.specs.Prelude.{◌++◌, slice_get}
-use Rattle.std.specs.Option.{option_map_or}
 use Rattle.nr_linked.specs.declared.program.types.VType.{VType}
+use Rattle.nr_model.specs.declared.value.Value.TheVariants as values
+use Rattle.nr_model.specs.Heaps.{Obj, Heap}
+use Rattle.nr_model.specs.States.{State}
+use Rattle.nr_typed.specs.Standing.{first_state}
 
 abbrev pub int_kind : Kind
 int_kind = record { dims = 0; base = bases.Int }
@@ -159,3 +163,16 @@ main_frames = types [] [] false ∷ types [] (Uninit 0 ∷ []) false ∷ types [
 
 abbrev pub frames : ℕ → List TypeFrame
 frames n = option_map_or (λ (fs : List TypeFrame). fs) (slice_get (initialiser_frames 0 ∷ m_frames 0 ∷ main_frames ∷ initialiser_frames 1 ∷ m_frames 1 ∷ []) n) []
+
+-- ---- a state
+
+-- an object of class 1, alone in its heap
+abbrev pub object : Obj
+object = record { kind = class_kind 1; slots = values.Int (pos 7) ∷ [] }
+
+abbrev pub one_object : Heap
+one_object = insert empty 1 object
+
+-- class 0's m is called on it
+abbrev pub m_start : State
+m_start = first_state one_object 1 base_m (values.Ref 1 ∷ [])

@@ -1,5 +1,5 @@
 -- States that stand in their heap: the frames hold values of the types of the well-typed program's frames.
-use Rattle.std.specs.Prelude.{◌≡◌, ℕ, ◌≤◌, List, [], ◌∷◌, drop, Option, Some, None}
+use Rattle.std.specs.Prelude.{◌≡◌, ℕ, ◌≤◌, List, [], ◌∷◌, drop, Option, Some}
 use Rattle.nr_linked.specs.declared.program.built_in.BuiltIn.TheVariants.{Throwable}
 use Rattle.nr_linked.specs.declared.program.kind.Kind.{Kind}
 use Rattle.nr_linked.specs.declared.program.tables.MethodInfo.{MethodInfo}

@@ -1,13 +1,13 @@
 //! Outcomes of runs within a budget and limits.
 
-ghost use Rattle.std.specs.Prelude.{◌≡◌, ◌≢◌, ◌≤◌, ℕ, List};
+ghost use Rattle.std.specs.Prelude.{◌≡◌, ◌≢◌, ◌≤◌, ℕ, List, length, None};
 ghost use Rattle.nr_linked.specs.declared.program.tables.ProgramTables.{ProgramTables};
 ghost use Rattle.nr_model.specs.declared.value.Value.{Value};
 ghost use Rattle.nr_model.specs.Heaps.{Heap, cells};
 ghost use Rattle.nr_model.specs.States.{IsEnd, State};
 ghost use Rattle.nr_model.specs.Steps.{Run};
-ghost use Rattle.nr_model.specs.Locals.{Begins};
-ghost use Rattle.nr_model.specs.Outcomes.{CallOutcome, Ended, Fate, HeapFull, Outcome};
+ghost use Rattle.nr_model.specs.Locals.{Begins, CallRun};
+ghost use Rattle.nr_model.specs.Outcomes.{CallOutcome, Ended, Fate, HeapFull, Outcome, max_cells, max_printed, passed};
 ghost use Rattle.nr_model.specs.Pairs.{PairedStates};
 
 /// Promises that an outcome doesn't depend on the names that new objects take: from paired states with
@@ -55,8 +55,22 @@ pub fn smaller_heaps_do_as_well()
         → (t' : State) × CallOutcome p k m vs budget n f t' × PairedStates pairs s' t' × (cells t'.heap ≤ cells s'.heap) }
 {}
 
-/// Promises that an outcome with an end is a run to that end, within the budget. It does nothing.
+/// Promises that an outcome with an end is a run to that end, within the budget; and that of a call a run of
+/// the call. It does nothing.
 pub fn ended_outcomes_are_runs()
-    ensures { (p : ProgramTables) (s t : State) (budget n : ℕ)
+    ensures states { (p : ProgramTables) (s t : State) (budget n : ℕ)
         → Outcome p s budget n Ended t → Run p s n t × IsEnd t.control × (n ≤ budget) }
+    ensures calls { (p : ProgramTables) (h : Heap) (m : ℕ) (args : List Value) (budget n : ℕ) (t : State)
+        → CallOutcome p h m args budget n Ended t → CallRun p h m args n t × (n ≤ budget) }
+{}
+
+/// Promises that what an outcome leaves passes no limit, where the start passed none; and that what the outcome
+/// of a call leaves has no more cells and output than are allowed, where the heap has no more cells. It does
+/// nothing.
+pub fn outcomes_keep_limits()
+    ensures states { (p : ProgramTables) (s t : State) (budget n : ℕ) (f : Fate)
+        → Outcome p s budget n f t → passed p s ≡ None → passed p t ≡ None }
+    ensures calls { (p : ProgramTables) (h : Heap) (m : ℕ) (args : List Value) (budget n : ℕ) (f : Fate) (t : State)
+        → CallOutcome p h m args budget n f t → cells h ≤ max_cells
+        → (cells t.heap ≤ max_cells) × (length t.printed ≤ max_printed) }
 {}

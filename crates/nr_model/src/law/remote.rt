@@ -6,7 +6,7 @@ ghost use Rattle.nr_linked.specs.declared.program.tables.ProgramTables.{ProgramT
 ghost use Rattle.nr_model.specs.States.{IsEnd, State};
 ghost use Rattle.nr_model.specs.Steps.{Run};
 ghost use Rattle.nr_model.specs.Asks.{AskRun, Entry};
-ghost use Rattle.nr_model.specs.LocalEntries.{AllFated, EachLocal, EachLocalOrFaulted, EachOwn, IsLocal, IsOwn, Mirrors};
+ghost use Rattle.nr_model.specs.LocalEntries.{AllFated, EachLocal, EachLocalOrFaulted, EachOwn, FaultedWhere, IsLocal, IsOwn, Mirrors};
 ghost use Rattle.nr_model.specs.Pairs.{Holds, IsClosed, PairedStates};
 
 /// Promises that a run with remote calls, each of which left the same as a local run and printed the same,
@@ -45,6 +45,13 @@ pub fn remote_runs_are_mirrored()
         → PairedStates pairs s t → AskRun p service s calls k s' → EachLocalOrFaulted p calls
         → (others : List Entry) × (t' : State) × AskRun p service t others k t' × Mirrors p calls others
         × PairedStates pairs s' t' }
+{}
+
+/// Promises that the calls of a machine that mirrors another throw at the numbers, from a first one on, at
+/// which the other met a fault, and are local runs themselves else. It does nothing.
+pub fn mirrored_calls_have_the_fates_of_the_first()
+    ensures { (p : ProgramTables) (faulted : ℕ → Bool) (n : ℕ) (calls others : List Entry)
+        → FaultedWhere faulted n calls → Mirrors p calls others → AllFated p faulted n others }
 {}
 
 /// Promises that two machines whose remote calls are local runs themselves, but throw at the calls of the

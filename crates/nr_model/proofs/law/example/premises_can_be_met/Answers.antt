@@ -1,5 +1,7 @@
 use Rattle.nr_model.proofs.Examples.BoxCopied.{copies_made, run_here, run_there, local_run}
 use Rattle.nr_model.proofs.Examples.BoxRestored.{start_alike, all_listed, closed, restores, left_the_same, call_is_local, call_is_restored}
+use Rattle.nr_model.proofs.Examples.BoxAsked.{answered_run, own_run, own_entry, mirrored, one_faulted, itself}
+use Rattle.nr_model.proofs.Examples.BoxRelayed.{each_local, each_own, relay_run}
 use Rattle.nr_model.proofs.law.example.premises_can_be_met.Goals as goal
 
 pub returns-clause-copies : goal.returns-clause-copies
@@ -34,3 +36,27 @@ returns-clause-local_call c = call_is_local
 
 pub returns-clause-restored_call : goal.returns-clause-restored_call
 returns-clause-restored_call c = call_is_restored
+
+pub returns-clause-own_call : goal.returns-clause-own_call
+returns-clause-own_call c = own_entry
+
+pub returns-clause-start : goal.returns-clause-start
+returns-clause-start c = itself
+
+pub returns-clause-answered_run : goal.returns-clause-answered_run
+returns-clause-answered_run c = answered_run
+
+pub returns-clause-own_run : goal.returns-clause-own_run
+returns-clause-own_run c = own_run
+
+pub returns-clause-mirrored : goal.returns-clause-mirrored
+returns-clause-mirrored c = mirrored
+
+pub returns-clause-faulted : goal.returns-clause-faulted
+returns-clause-faulted c = one_faulted
+
+pub returns-clause-restored_args : goal.returns-clause-restored_args
+returns-clause-restored_args c = (each_local, each_own)
+
+pub returns-clause-restored_args_run : goal.returns-clause-restored_args_run
+returns-clause-restored_args_run c = relay_run
