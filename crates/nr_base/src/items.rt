@@ -86,6 +86,11 @@ impl<T> Items<T> {
     {
         self.items.is_empty()
     }
+
+    /// What the list takes its memory from.
+    pub fn allocator(&self) -> Global {
+        *self.items.allocator()
+    }
 }
 
 impl<T: Drop> Items<T> {

@@ -10,6 +10,7 @@ pub mod AnyReferences
 pub mod BuiltInLaws
 pub mod Declaring
 pub mod LegalTexts
+pub mod SeenSlots
 pub mod BuiltInTexts
 pub mod BuiltInsAbove
 pub mod Witness

@@ -6,6 +6,7 @@ pub mod Subtypes
 pub mod Slots
 pub mod Selection
 pub mod Sendable
+pub mod SeenSlots
 pub mod Restorable
 pub mod Sites
 pub mod Initialisers

@@ -40,9 +40,10 @@ abbrev pub before : ℕ → VType → VType
 before zero Long = Top
 before i t = t
 
--- a type in one place
+-- a type in one place; places up to it that weren't listed are Top
 abbrev pub put_word : ℕ → VType → List VType → List VType
-put_word i t [] = []
+put_word zero t [] = t ∷ []
+put_word (suc i) t [] = Top ∷ put_word i t []
 put_word zero t (u ∷ us) = t ∷ after u us
 put_word (suc i) t (u ∷ us) = before i u ∷ put_word i t us
 

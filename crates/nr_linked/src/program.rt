@@ -23,6 +23,7 @@ mod slots;
 mod subtypes;
 mod superclasses;
 mod tables;
+mod twins;
 mod types;
 
 pub use built_in::BuiltIn;

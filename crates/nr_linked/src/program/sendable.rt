@@ -5,12 +5,14 @@ ghost use Rattle.std.specs.List.{list_any};
 ghost use Rattle.nr_linked.specs.Programs.{superclasses};
 ghost use Rattle.nr_linked.specs.KindTexts.{kind_text};
 ghost use Rattle.nr_linked.specs.Restorable.{is_restorable};
-ghost use Rattle.nr_linked.specs.Sendable.{are_serializable, has_feature, has_twins, is_class_sendable, is_concrete, is_sendable, is_serial_class, is_serial_field, is_serial_method, is_serial_method_name, is_serializable, is_twin, lists_fields};
+ghost use Rattle.nr_linked.specs.Sendable.{are_serializable, has_feature, has_twins, is_class_sendable, is_concrete, is_sendable, is_serial_class, is_serial_field, is_serial_method, is_serial_method_name, is_serializable, lists_fields};
+ghost use Rattle.nr_linked.specs.Slots.{slots_of};
 
 use super::built_in::BuiltIn;
 use super::flags::{ABSTRACT, INTERFACE, STATIC, TRANSIENT, has_flag};
 use super::kind::{Base, ClassId, Kind};
-use super::tables::{ProgramTables, SlotInfo};
+use super::tables::ProgramTables;
+use super::twins::has_twins;
 use nr_prog::{Class, Field, Method};
 
 fn is_serial_method_name(name: &[u8]) -> bool
@@ -71,31 +73,6 @@ fn has_feature(class: &Class) -> bool
     has_serial_method(class) || has_serial_field(class)
 }
 
-fn is_twin(slot: &SlotInfo, other: &SlotInfo) -> bool
-    ensures { result ≡ is_twin slot.now other.now }
-{
-    slot.declared_in == other.declared_in && slot.name.as_bytes() == other.name.as_bytes()
-}
-
-fn has_twin(slot: &SlotInfo, others: &[SlotInfo]) -> bool
-    ensures { result ≡ list_any (is_twin slot.now) others.now }
-{
-    others.iter().any(|other| is_twin(slot, other))
-}
-
-fn has_twins(slots: &[SlotInfo]) -> bool
-    ensures { result ≡ has_twins slots.now }
-{
-    let mut left = slots;
-    while let Some((first, others)) = left.split_first() {
-        if has_twin(first, others) {
-            return true;
-        }
-        left = others;
-    }
-    false
-}
-
 impl ProgramTables {
     fn is_serial_class(&self, class: ClassId) -> bool
         ensures { result ≡ is_serial_class self.now class }
@@ -147,7 +124,17 @@ impl ProgramTables {
             && self.is_serializable(class)
             && self.are_serializable(class)
             && !self.has_serial_class(class)
-            && !has_twins(self.slots_of(class))
+            && !self.has_twins(class)
+    }
+
+    /// Whether two slots of the class's objects have one name and one declaring class.
+    fn has_twins(&self, class: ClassId) -> bool
+        ensures { result ≡ has_twins (slots_of self.now class) }
+    {
+        match self.class_at(class) {
+            Some(info) => has_twins(info.slots.allocator(), info.slots.as_slice()),
+            None => false,
+        }
     }
 
     /// How many bytes the kind's descriptor has.

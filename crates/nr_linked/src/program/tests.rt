@@ -3,4 +3,5 @@
 mod features;
 mod kinds;
 mod members;
+mod twins;
 mod world;
