@@ -41,7 +41,7 @@ use Rattle.nr_linkrules.specs.Outline.{bare_class, outline, some_text}
 use Rattle.nr_linkrules.specs.Reaches.{HasSteps, is_step, reaches, steps_up}
 use Rattle.nr_linkrules.proofs.Alike.{bare_says, count, entry, kinds_alike, named, on_entry, reached}
 use Rattle.nr_linkrules.proofs.Naming.{kind_back}
-use Rattle.nr_linkrules.proofs.Outlined.{bare_loaded, classes_are, face_in}
+use Rattle.nr_linkrules.proofs.Outlined.{bare_built_in, bare_loaded, classes_are, face_in}
 use Rattle.nr_linkrules.proofs.Reached.{reaches_above}
 use Rattle.nr_linkrules.proofs.Rising.{filter_listed, listed_filter, listed_range, range_listed, rising_filter}
 
@@ -212,13 +212,9 @@ module _ (classes : List Loaded) (P : ProgramTables) (links : Links classes P) w
 
   -- ---- the entries
 
-  bare_built_in : (e : ClassInfo) → e.read ≡ None → bare_class e ≡ e
-  unfolding bare_class
-  bare_built_in e r = ap (λ o. option_map_or (λ (parts : ClassParts). record e { supers = []; slots = [] }) o e) r
-
   laid_is : (c : ℕ) (e : ClassInfo) → class_at P c ≡ Some e → laid_class O c (bare_class e) ≡ e
   laid_is c e is = elim (entry_cases classes P links c e is) [
-    | inl l ↦ ap (laid_class O c) (bare_loaded classes P links e l.l.«class» l.read)
+    | inl l ↦ ap (laid_class O c) (bare_loaded e l.l.«class» l.read)
         ∙ ap (λ o. option_map_or (λ (parts : ClassParts). record e { supers = supers_in O c; slots = slots_in O c }) o (record e { supers = []; slots = [] })) l.read
         ∙ (λ i. record e { supers = supers_are c e l is i; slots = slots_are c e is i })
     | inr b ↦ let none = ap (λ (e : ClassInfo). e.read) b.1 ∙ unread b.0 in

@@ -13,6 +13,8 @@ pub mod Rising
 pub mod LaidOut
 pub mod SameFound
 pub mod PassedCode
+pub mod Program
+pub mod Shifted
 pub mod Ranks
 pub mod Naming
 pub mod Finding
