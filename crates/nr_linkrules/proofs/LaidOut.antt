@@ -43,6 +43,7 @@ use Rattle.nr_linkrules.proofs.Alike.{bare_says, count, entry, kinds_alike, name
 use Rattle.nr_linkrules.proofs.Naming.{kind_back}
 use Rattle.nr_linkrules.proofs.Outlined.{bare_built_in, bare_loaded, classes_are, face_in}
 use Rattle.nr_linkrules.proofs.Reached.{reaches_above}
+use Rattle.nr_linkrules.proofs.Steps.{steps_in}
 use Rattle.nr_linkrules.proofs.Rising.{filter_listed, listed_filter, listed_range, range_listed, rising_filter}
 
 pub numbered_at : {X Y : Type 0} (f : ℕ → X → Y) (n : ℕ) (xs : List X) (k : ℕ) → slice_get (numbered f n xs) k ≡ option_map (f (n + k)) (slice_get xs k)
@@ -58,18 +59,7 @@ module _ (classes : List Loaded) (P : ProgramTables) (links : Links classes P) w
   -- ---- what stands above a class
 
   pub has_steps : HasSteps P
-  has_steps c s p = of_entry (class_at P c) refl p
-    where
-      above_is : (e : ClassInfo) → class_at P c ≡ Some e → (o : Option ℕ) → IsTrue (option_map_or (Rattle.nr_linked.specs.Linked.is_super_in P c) o true) → IsTrue (is_listed s (option_to_list o ++ e.interfaces)) → IsTrue (is_class_in P s)
-      above_is e is None q p = face_in classes P links s (listed_all (is_interface P) s e.interfaces p (links.linked.classes c e is).interfaces)
-      above_is e is (Some a) q p = elim (or_cases (a == s) (is_listed s e.interfaces) p) [
-        | inl same ↦ subst (λ a. IsTrue (is_class_in P a)) (eqb-true a s same) (and_parts (is_class_in P a) _ q).0
-        | inr more ↦ face_in classes P links s (listed_all (is_interface P) s e.interfaces more (links.linked.classes c e is).interfaces)
-      ]
-
-      of_entry : (o : Option ClassInfo) → class_at P c ≡ o → IsTrue (is_listed s (option_map_or (λ e. option_to_list e.super_class ++ e.interfaces) o [])) → s < length P.classes
-      of_entry None is p = absurd cc
-      of_entry (Some e) is p = ltb-true s (length P.classes) (above_is e is e.super_class (links.linked.classes c e is).super_class p)
+  has_steps = steps_in P (λ c e is. ((links.linked.classes c e is).super_class, (links.linked.classes c e is).interfaces))
 
   above_in : (c d : ℕ) → c < length P.classes → Above P c d → d < length P.classes
   above_in c d lt itself = lt

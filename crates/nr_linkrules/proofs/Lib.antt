@@ -9,12 +9,15 @@ pub mod Alike
 pub mod NoFault
 pub mod Passed
 pub mod PassedMembers
+pub mod Steps
 pub mod Rising
 pub mod LaidOut
 pub mod SameFound
 pub mod PassedCode
 pub mod Program
 pub mod Shifted
+pub mod Known
+pub mod KnownAbove
 pub mod Ranks
 pub mod Naming
 pub mod Finding

@@ -4,7 +4,7 @@ use Rattle.std.specs.Prelude.{Option, Some, None, IsTrue, slice_get, ◌==◌, n
 use Rattle.std.specs.List.{list_all, list_any, range_with_len}
 use Rattle.std.specs.Option.{option_and_then, option_map, option_map_or, option_to_list}
 use Rattle.std.proofs.lemmas.Bool.{and_parts, cases_Bool, cases_lt, eq-eqb, eqb-false, eqb-true, false_from_ne_true, lt-ltb, or_cases, or_left, or_right}
-use Rattle.std.proofs.lemmas.Option.{same_Some, slice_get-map}
+use Rattle.std.proofs.lemmas.Option.{same_Some, slice_get-map, slice_get_within}
 use Rattle.nr_base.specs.Descs.{method_text}
 use Rattle.nr_linked.specs.declared.program.built_in.BuiltIn.{BuiltIn}
 use Rattle.nr_linked.specs.declared.program.built_in.BuiltIn.TheVariants.{Object}
@@ -27,9 +27,11 @@ use Rattle.nr_linked.specs.Slots.{slots_of}
 use Rattle.nr_linked.specs.Subtypes.{Above, IsDirectlyAbove, further, is_above, itself}
 use Rattle.nr_linked.proofs.Witness as witness
 use Rattle.nr_links.proofs.BuiltInEntries.{on_all}
-use Rattle.nr_links.proofs.Listed.{is_listed}
+use Rattle.nr_links.proofs.Listed.{is_listed, listed_all}
 use Rattle.nr_links.proofs.OneNames.{same_functions}
-use Rattle.nr_links.proofs.Places.{get_flat, get_mapped, passes_at}
+use Rattle.nr_links.proofs.Upward.{has_entry}
+use Rattle.nr_linkrules.proofs.Rising.{range_listed}
+use Rattle.nr_links.proofs.Places.{get_below, get_flat, get_mapped, passes_at}
 use Rattle.nr_links.proofs.Reaching.{direct_step, step_direct}
 use Rattle.nr_linkrules.specs.Reaches.{is_step, steps_up}
 
@@ -79,7 +81,7 @@ listed_behind n d (x ∷ xs) p = elim (or_cases ((n + x) == d) (is_listed d (map
 
 -- ---- entries behind n classes and m methods
 
-abbrev shift_class : ℕ → ℕ → ClassInfo → ClassInfo
+abbrev pub shift_class : ℕ → ℕ → ClassInfo → ClassInfo
 shift_class n m e = record e {
   super_class = option_map (λ a. n + a) e.super_class;
   interfaces = map (λ a. n + a) e.interfaces;
@@ -136,7 +138,7 @@ plain j i at =
 module _ (P : ProgramTables) (n m : ℕ) (count : length P.classes ≡ n + built_in_count)
     (class_there : (j : ℕ) → class_at P (n + j) ≡ slice_get (built_in_infos n m) j)
     (method_there : (j : ℕ) → method_at P (m + j) ≡ slice_get (built_in_methods n) j) where
-  class_behind : (j : ℕ) → class_at P (n + j) ≡ option_map (shift_class n m) (class_at T j)
+  pub class_behind : (j : ℕ) → class_at P (n + j) ≡ option_map (shift_class n m) (class_at T j)
   class_behind j = class_there j ∙ ap (λ es. slice_get es j) (shifted_infos n m) ∙ slice_get-map (shift_class n m) T.classes j
 
   method_behind : (j : ℕ) → method_at P (m + j) ≡ option_map (shift_method n) (method_at T j)
@@ -384,3 +386,27 @@ module _ (P : ProgramTables) (n m : ℕ) (count : length P.classes ≡ n + built
 no_cycle : IsTrue (list_all (λ c. list_all (λ s. not (is_above built_in_tables s c)) (steps_up built_in_tables c)) (range_with_len 0 (length T.classes)))
 unfolding built_in_tables built_in_infos built_in_info built_in_class
 no_cycle = refl
+
+pub acyclic : (c s : ℕ) → IsTrue (is_step built_in_tables c s) → Above built_in_tables s c → ⊥
+acyclic c s step above =
+    let none = passing_all (λ c. list_all (λ s. not (is_above built_in_tables s c)) (steps_up built_in_tables c)) (length T.classes) no_cycle c (below c s step) in
+    let off = listed_all (λ s. not (is_above built_in_tables s c)) s (steps_up built_in_tables c) step none in
+    let d = entry s c above (below c s step) in
+    both (is_above built_in_tables s c) off (((witness.linked.classes s d.0 d.1).supers c).1 above)
+  where
+    below : (c s : ℕ) → IsTrue (is_step built_in_tables c s) → c < length T.classes
+    below c s p = of_entry (class_at T c) refl p
+      where
+        of_entry : (o : Option ClassInfo) → class_at T c ≡ o → IsTrue (is_listed s (option_map_or (λ (e : ClassInfo). option_to_list e.super_class ++ e.interfaces) o [])) → c < length T.classes
+        of_entry None at p = absurd cc
+        of_entry (Some e) at p = slice_get_within T.classes c e at
+
+    passing_all : (f : ℕ → Bool) (k : ℕ) → IsTrue (list_all f (range_with_len 0 k)) → (c : ℕ) → c < k → IsTrue (f c)
+    passing_all f k p c lt = listed_all f c (range_with_len 0 k) (range_listed 0 k c (omega arith) (omega (arith, lt))) p
+
+    entry : (s c : ℕ) → Above built_in_tables s c → c < length T.classes → (e : ClassInfo) × (class_at T s ≡ Some e)
+    entry s c above lt = let f = get_below T.classes c lt in has_entry T s c f.0 above f.1
+
+    both : (b : Bool) → IsTrue (not b) → IsTrue b → ⊥
+    both true p q = absurd cc
+    both false p q = absurd cc
