@@ -134,7 +134,7 @@ module _ (classes : List Loaded) (none : link_fault classes ≡ None) (all : All
   abbrev pub outlined : ℕ → Loaded → ClassInfo
   outlined k l = outline_class (names_of classes) (method_count (take k classes)) l.«class»
 
-  outline_at : (k : ℕ) (l : Loaded) → slice_get classes k ≡ Some l → class_at O k ≡ Some (outlined k l)
+  pub outline_at : (k : ℕ) (l : Loaded) → slice_get classes k ≡ Some l → class_at O k ≡ Some (outlined k l)
   unfolding outline
   outline_at k l at =
       let w = slice_get_within classes k l at in

@@ -60,7 +60,7 @@ module _ (classes : List Loaded) (none : link_fault classes ≡ None) (all : All
 
   -- ---- what a name names
 
-  named_is : (name : List ℕ) → known_fault O name ≡ None → (s : ℕ) × (class_named P name ≡ Some s)
+  pub named_is : (name : List ℕ) → known_fault O name ≡ None → (s : ℕ) × (class_named P name ≡ Some s)
   unfolding known_fault
   named_is name e = of_option (class_named O name) (passes (is_known O name) _ e) (sym (alike.named P O same name))
     where
@@ -168,10 +168,10 @@ module _ (classes : List Loaded) (none : link_fault classes ≡ None) (all : All
     | inr le ↦ let e : n + (c - n) ≡ c = omega (arith, le) in subst Kind e (built_in_at (c - n))
   ]
 
-  abbrev class_there : (j : ℕ) → class_at P (n + j) ≡ slice_get (Rattle.nr_linked.specs.BuiltInTables.built_in_infos n (method_count classes)) j
+  pub class_there : (j : ℕ) → class_at P (n + j) ≡ slice_get (Rattle.nr_linked.specs.BuiltInTables.built_in_infos n (method_count classes)) j
   class_there j = program.class_at_built_in classes j
 
-  abbrev method_there : (j : ℕ) → Rattle.nr_linked.specs.Programs.method_at P (method_count classes + j) ≡ slice_get (Rattle.nr_linked.specs.BuiltInTables.built_in_methods n) j
+  pub method_there : (j : ℕ) → Rattle.nr_linked.specs.Programs.method_at P (method_count classes + j) ≡ slice_get (Rattle.nr_linked.specs.BuiltInTables.built_in_methods n) j
   method_there j = program.method_at_built_in classes (known.decoded classes none all) j
 
   -- a built-in class is linked

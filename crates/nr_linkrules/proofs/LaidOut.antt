@@ -39,7 +39,7 @@ use Rattle.nr_links.proofs.SlotFacts.{LoadedEntry, entry_cases}
 use Rattle.nr_linkrules.specs.Layout.{kind_of, kind_said, laid_class, laid_out, numbered, read_desc, slot_for, slot_of, slots_declared, slots_in, slots_read, supers_in}
 use Rattle.nr_linkrules.specs.Outline.{bare_class, outline, some_text}
 use Rattle.nr_linkrules.specs.Reaches.{HasSteps, is_step, reaches, steps_up}
-use Rattle.nr_linkrules.proofs.Alike.{bare_says, count, entry, kinds_alike, named, on_entry, reached}
+use Rattle.nr_linkrules.proofs.Alike.{bare_says, count, entry, kinds_alike, named, on_entry, reached, upward_alike}
 use Rattle.nr_linkrules.proofs.Naming.{kind_back}
 use Rattle.nr_linkrules.proofs.Outlined.{bare_built_in, bare_loaded, classes_are, face_in}
 use Rattle.nr_linkrules.proofs.Reached.{reaches_above}
@@ -182,22 +182,10 @@ module _ (classes : List Loaded) (P : ProgramTables) (links : Links classes P) w
           let f = get_below P.classes s (ltb-true s (length P.classes) (and_parts (is_class_in P s) _ known).0) in
           up s f.0 f.1 rest ∙ sym (ap (λ o. option_map_or (λ (e : ClassInfo). e.slots) o []) f.1)
 
-  supers_alike : (c : ℕ) → super_of O c ≡ super_of P c
-  supers_alike c = by_option (class_at O c) ∙ on_entry P O (classes_are classes P links) (λ (e : ClassInfo). e.super_class) None (bare_says (λ (e : ClassInfo). e.super_class) (λ e. refl)) c ∙ sym (by_option (class_at P c))
-    where
-      by_option : (o : Option ClassInfo) → option_and_then (λ (e : ClassInfo). e.super_class) o ≡ option_map_or (λ (e : ClassInfo). e.super_class) o None
-      by_option None = refl
-      by_option (Some e) = refl
-
-  upward_alike : (n : ℕ) (o : Option ℕ) → upward O n o ≡ upward P n o
-  upward_alike zero o = refl
-  upward_alike (suc n) None = refl
-  upward_alike (suc n) (Some c) = ap (λ cs. c ∷ cs) (upward_alike n (super_of O c) ∙ ap (upward P n) (supers_alike c))
-
   slots_are : (c : ℕ) (e : ClassInfo) → class_at P c ≡ Some e → slots_in O c ≡ e.slots
   unfolding slots_in
   slots_are c e is =
-      ap (λ cs. flat_map (slots_declared O) (reverse cs)) (ap (λ n. upward O n (Some c)) (count P O (classes_are classes P links)) ∙ upward_alike (length P.classes) (Some c))
+      ap (λ cs. flat_map (slots_declared O) (reverse cs)) (ap (λ n. upward O n (Some c)) (count P O (classes_are classes P links)) ∙ upward_alike P O (classes_are classes P links) (length P.classes) (Some c))
       ∙ slots_upward (length P.classes) c e is (links.linked.classes c e is).ends
 
   -- ---- the entries

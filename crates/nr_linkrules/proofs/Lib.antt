@@ -18,6 +18,8 @@ pub mod Program
 pub mod Shifted
 pub mod Known
 pub mod KnownAbove
+pub mod MemberParts
+pub mod KnownSlots
 pub mod Ranks
 pub mod Naming
 pub mod Finding

@@ -281,7 +281,7 @@ module _ (P : ProgramTables) (n m : ℕ) (count : length P.classes ≡ n + built
       (longer (λ d. d == built_in P Object) (length T.classes) n (Some (n + c))
       (ap (list_any (λ d. d == built_in P Object)) (upward_there (length T.classes) (Some c)) ∙ any_behind (λ d. d == built_in P Object) (λ a. n + a) (λ d. d == built_in T Object) is_object_there (upward T (length T.classes) (Some c)) ∙ p))
 
-  not_loaded_there : (c : ℕ) → is_loaded P (n + c) ≡ false
+  pub not_loaded_there : (c : ℕ) → is_loaded P (n + c) ≡ false
   not_loaded_there c = not_below (n + c) (length P.classes - built_in_count) (omega (arith, count))
 
   -- ---- classes
