@@ -20,6 +20,7 @@ pub mod Known
 pub mod KnownAbove
 pub mod MemberParts
 pub mod KnownSlots
+pub mod KnownClasses
 pub mod Ranks
 pub mod Naming
 pub mod Finding
