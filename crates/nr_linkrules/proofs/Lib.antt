@@ -21,6 +21,7 @@ pub mod KnownAbove
 pub mod MemberParts
 pub mod KnownSlots
 pub mod KnownClasses
+pub mod FoundIn
 pub mod Ranks
 pub mod Naming
 pub mod Finding
