@@ -22,6 +22,8 @@ pub mod MemberParts
 pub mod KnownSlots
 pub mod KnownClasses
 pub mod FoundIn
+pub mod KnownMethods
+pub mod KnownProgram
 pub mod Ranks
 pub mod Naming
 pub mod Finding
