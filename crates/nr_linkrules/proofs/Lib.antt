@@ -24,6 +24,7 @@ pub mod KnownClasses
 pub mod FoundIn
 pub mod KnownMethods
 pub mod KnownProgram
+pub mod GivenAll
 pub mod Ranks
 pub mod Naming
 pub mod Finding
