@@ -25,6 +25,7 @@ pub mod FoundIn
 pub mod KnownMethods
 pub mod KnownProgram
 pub mod GivenAll
+pub mod Completed
 pub mod Ranks
 pub mod Naming
 pub mod Finding
