@@ -2,7 +2,7 @@
 use Rattle.std.proofs.Common.{◌≡◌, ℕ, zero, suc, Bool, true, false, List, [], ◌∷◌, length, map, refl, sym, ap, ◌∙◌, ◌&&◌, ◌||◌, not}
 use Rattle.std.specs.Prelude.{Option, Some, None, slice_get}
 use Rattle.std.specs.List.{list_all, list_any, range_with_len}
-use Rattle.std.specs.Option.{option_map, option_map_or}
+use Rattle.std.specs.Option.{option_and_then, option_map, option_map_or}
 use Rattle.std.specs.Str.{bytes_eq}
 use Rattle.std.proofs.lemmas.List.{length-map}
 use Rattle.std.proofs.lemmas.Option.{slice_get-map}
@@ -18,7 +18,7 @@ use Rattle.nr_linked.specs.declared.program.tables.ProgramTables.{ProgramTables}
 use Rattle.nr_prog.specs.Members.{has_flag}
 use Rattle.nr_linked.specs.BuiltIns.{built_in, built_in_count, number}
 use Rattle.nr_linked.specs.Linked.{is_super_in}
-use Rattle.nr_linked.specs.Programs.{class_at, class_named, is_interface, method_at, methods_of}
+use Rattle.nr_linked.specs.Programs.{class_at, class_named, is_interface, method_at, methods_of, super_of, upward}
 use Rattle.nr_linked.specs.Selection.{is_selectable}
 use Rattle.nr_links.specs.Rules.{is_final, is_final_class}
 use Rattle.nr_links.proofs.OneNames.{same_functions}
@@ -84,6 +84,18 @@ module _ (P Q : ProgramTables) (same : map bare_class P.classes ≡ Q.classes) w
 
   pub declares : (c : ℕ) → methods_of Q c ≡ methods_of P c
   declares c = on_entry (λ (e : ClassInfo). range_with_len e.first_method e.methods) [] (bare_says (λ (e : ClassInfo). range_with_len e.first_method e.methods) (λ e. refl)) c
+
+  pub supers_alike : (c : ℕ) → super_of Q c ≡ super_of P c
+  supers_alike c = by_option (class_at Q c) ∙ on_entry (λ (e : ClassInfo). e.super_class) None (bare_says (λ (e : ClassInfo). e.super_class) (λ e. refl)) c ∙ sym (by_option (class_at P c))
+    where
+      by_option : (o : Option ClassInfo) → option_and_then (λ (e : ClassInfo). e.super_class) o ≡ option_map_or (λ (e : ClassInfo). e.super_class) o None
+      by_option None = refl
+      by_option (Some e) = refl
+
+  pub upward_alike : (n : ℕ) (o : Option ℕ) → upward Q n o ≡ upward P n o
+  upward_alike zero o = refl
+  upward_alike (suc n) None = refl
+  upward_alike (suc n) (Some c) = ap (λ cs. c ∷ cs) (upward_alike n (super_of Q c) ∙ ap (upward P n) (supers_alike c))
 
   pub steps : (c : ℕ) → steps_up Q c ≡ steps_up P c
   steps c = on_entry (λ (e : ClassInfo). Rattle.std.specs.Prelude.◌++◌ (Rattle.std.specs.Option.option_to_list e.super_class) e.interfaces) [] (bare_says (λ (e : ClassInfo). Rattle.std.specs.Prelude.◌++◌ (Rattle.std.specs.Option.option_to_list e.super_class) e.interfaces) (λ e. refl)) c

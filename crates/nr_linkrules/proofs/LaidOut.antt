@@ -39,10 +39,11 @@ use Rattle.nr_links.proofs.SlotFacts.{LoadedEntry, entry_cases}
 use Rattle.nr_linkrules.specs.Layout.{kind_of, kind_said, laid_class, laid_out, numbered, read_desc, slot_for, slot_of, slots_declared, slots_in, slots_read, supers_in}
 use Rattle.nr_linkrules.specs.Outline.{bare_class, outline, some_text}
 use Rattle.nr_linkrules.specs.Reaches.{HasSteps, is_step, reaches, steps_up}
-use Rattle.nr_linkrules.proofs.Alike.{bare_says, count, entry, kinds_alike, named, on_entry, reached}
+use Rattle.nr_linkrules.proofs.Alike.{bare_says, count, entry, kinds_alike, named, on_entry, reached, upward_alike}
 use Rattle.nr_linkrules.proofs.Naming.{kind_back}
-use Rattle.nr_linkrules.proofs.Outlined.{bare_loaded, classes_are, face_in}
+use Rattle.nr_linkrules.proofs.Outlined.{bare_built_in, bare_loaded, classes_are, face_in}
 use Rattle.nr_linkrules.proofs.Reached.{reaches_above}
+use Rattle.nr_linkrules.proofs.Steps.{steps_in}
 use Rattle.nr_linkrules.proofs.Rising.{filter_listed, listed_filter, listed_range, range_listed, rising_filter}
 
 pub numbered_at : {X Y : Type 0} (f : ℕ → X → Y) (n : ℕ) (xs : List X) (k : ℕ) → slice_get (numbered f n xs) k ≡ option_map (f (n + k)) (slice_get xs k)
@@ -58,18 +59,7 @@ module _ (classes : List Loaded) (P : ProgramTables) (links : Links classes P) w
   -- ---- what stands above a class
 
   pub has_steps : HasSteps P
-  has_steps c s p = of_entry (class_at P c) refl p
-    where
-      above_is : (e : ClassInfo) → class_at P c ≡ Some e → (o : Option ℕ) → IsTrue (option_map_or (Rattle.nr_linked.specs.Linked.is_super_in P c) o true) → IsTrue (is_listed s (option_to_list o ++ e.interfaces)) → IsTrue (is_class_in P s)
-      above_is e is None q p = face_in classes P links s (listed_all (is_interface P) s e.interfaces p (links.linked.classes c e is).interfaces)
-      above_is e is (Some a) q p = elim (or_cases (a == s) (is_listed s e.interfaces) p) [
-        | inl same ↦ subst (λ a. IsTrue (is_class_in P a)) (eqb-true a s same) (and_parts (is_class_in P a) _ q).0
-        | inr more ↦ face_in classes P links s (listed_all (is_interface P) s e.interfaces more (links.linked.classes c e is).interfaces)
-      ]
-
-      of_entry : (o : Option ClassInfo) → class_at P c ≡ o → IsTrue (is_listed s (option_map_or (λ e. option_to_list e.super_class ++ e.interfaces) o [])) → s < length P.classes
-      of_entry None is p = absurd cc
-      of_entry (Some e) is p = ltb-true s (length P.classes) (above_is e is e.super_class (links.linked.classes c e is).super_class p)
+  has_steps = steps_in P (λ c e is. ((links.linked.classes c e is).super_class, (links.linked.classes c e is).interfaces))
 
   above_in : (c d : ℕ) → c < length P.classes → Above P c d → d < length P.classes
   above_in c d lt itself = lt
@@ -192,33 +182,17 @@ module _ (classes : List Loaded) (P : ProgramTables) (links : Links classes P) w
           let f = get_below P.classes s (ltb-true s (length P.classes) (and_parts (is_class_in P s) _ known).0) in
           up s f.0 f.1 rest ∙ sym (ap (λ o. option_map_or (λ (e : ClassInfo). e.slots) o []) f.1)
 
-  supers_alike : (c : ℕ) → super_of O c ≡ super_of P c
-  supers_alike c = by_option (class_at O c) ∙ on_entry P O (classes_are classes P links) (λ (e : ClassInfo). e.super_class) None (bare_says (λ (e : ClassInfo). e.super_class) (λ e. refl)) c ∙ sym (by_option (class_at P c))
-    where
-      by_option : (o : Option ClassInfo) → option_and_then (λ (e : ClassInfo). e.super_class) o ≡ option_map_or (λ (e : ClassInfo). e.super_class) o None
-      by_option None = refl
-      by_option (Some e) = refl
-
-  upward_alike : (n : ℕ) (o : Option ℕ) → upward O n o ≡ upward P n o
-  upward_alike zero o = refl
-  upward_alike (suc n) None = refl
-  upward_alike (suc n) (Some c) = ap (λ cs. c ∷ cs) (upward_alike n (super_of O c) ∙ ap (upward P n) (supers_alike c))
-
   slots_are : (c : ℕ) (e : ClassInfo) → class_at P c ≡ Some e → slots_in O c ≡ e.slots
   unfolding slots_in
   slots_are c e is =
-      ap (λ cs. flat_map (slots_declared O) (reverse cs)) (ap (λ n. upward O n (Some c)) (count P O (classes_are classes P links)) ∙ upward_alike (length P.classes) (Some c))
+      ap (λ cs. flat_map (slots_declared O) (reverse cs)) (ap (λ n. upward O n (Some c)) (count P O (classes_are classes P links)) ∙ upward_alike P O (classes_are classes P links) (length P.classes) (Some c))
       ∙ slots_upward (length P.classes) c e is (links.linked.classes c e is).ends
 
   -- ---- the entries
 
-  bare_built_in : (e : ClassInfo) → e.read ≡ None → bare_class e ≡ e
-  unfolding bare_class
-  bare_built_in e r = ap (λ o. option_map_or (λ (parts : ClassParts). record e { supers = []; slots = [] }) o e) r
-
   laid_is : (c : ℕ) (e : ClassInfo) → class_at P c ≡ Some e → laid_class O c (bare_class e) ≡ e
   laid_is c e is = elim (entry_cases classes P links c e is) [
-    | inl l ↦ ap (laid_class O c) (bare_loaded classes P links e l.l.«class» l.read)
+    | inl l ↦ ap (laid_class O c) (bare_loaded e l.l.«class» l.read)
         ∙ ap (λ o. option_map_or (λ (parts : ClassParts). record e { supers = supers_in O c; slots = slots_in O c }) o (record e { supers = []; slots = [] })) l.read
         ∙ (λ i. record e { supers = supers_are c e l is i; slots = slots_are c e is i })
     | inr b ↦ let none = ap (λ (e : ClassInfo). e.read) b.1 ∙ unread b.0 in

@@ -18,7 +18,7 @@ use Rattle.nr_linkrules.proofs.NoFault.{both_none, each_numbered, each_of, is_fa
 
 -- ---- the first place at which a test passes
 
-first_place : {X : Type 0} (p : X → Bool) (xs : List X) (k : ℕ) (d : X) → k < length xs → p (get_or xs k d) ≡ true → ((j : ℕ) → j < k → p (get_or xs j d) ≡ false) → position_or_len p xs ≡ k
+pub first_place : {X : Type 0} (p : X → Bool) (xs : List X) (k : ℕ) (d : X) → k < length xs → p (get_or xs k d) ≡ true → ((j : ℕ) → j < k → p (get_or xs j d) ≡ false) → position_or_len p xs ≡ k
 first_place p [] k d lt here before = absurd (omega (arith, lt))
 first_place p (x ∷ xs) zero d lt here before = ap (λ b. cond (not b) (1 + position_or_len p xs) 0) here
 first_place p (x ∷ xs) (suc k) d lt here before =
@@ -26,7 +26,7 @@ first_place p (x ∷ xs) (suc k) d lt here before =
     let sum : 1 + position_or_len p xs ≡ suc k = omega (arith, rest) in
     ap (λ b. cond (not b) (1 + position_or_len p xs) 0) (before 0 (omega arith)) ∙ sum
 
-position_is : {X : Type 0} (p : X → Bool) (xs : List X) (k : ℕ) → k < length xs → position_or_len p xs ≡ k → position p xs ≡ Some k
+pub position_is : {X : Type 0} (p : X → Bool) (xs : List X) (k : ℕ) → k < length xs → position_or_len p xs ≡ k → position p xs ≡ Some k
 position_is p xs k lt e = (λ i. cond (nat_lt (e i) (length xs)) (Some (e i)) None) ∙ ap (λ b. cond b (Some k) None) (lt-ltb k (length xs) lt)
 
 -- none of the first k passes
@@ -44,7 +44,7 @@ none_before p (x ∷ xs) (suc k) (suc j) d none lt short = none_before p xs k j 
     tail true e = absurd cc
     tail false e = e
 
-itself : (name : List ℕ) → bytes_eq name name ≡ true
+pub itself : (name : List ℕ) → bytes_eq name name ≡ true
 itself name = (Rattle.std.proofs.lemmas.Slice.Eq.bytes_eq-Decides name name).1 refl
 
 module _ (classes : List Loaded) (none : list_fault classes ≡ None) where

@@ -87,7 +87,7 @@ unwrap f (Some y) x e = cc
 pub wrap : {A : Type 0} (f : LinkFault) (o : Option A) (x : A) → o ≡ Some x → ◌≡◌ {A = Finding A} (or_fault f o) (Ok x)
 wrap f o x e = ap (or_fault f) e
 
-and_then_from : {A B : Type 0} (f : A → Option B) (o : Option A) (y : B) → option_and_then f o ≡ Some y → (x : A) × (o ≡ Some x) × (f x ≡ Some y)
+pub and_then_from : {A B : Type 0} (f : A → Option B) (o : Option A) (y : B) → option_and_then f o ≡ Some y → (x : A) × (o ≡ Some x) × (f x ≡ Some y)
 and_then_from f None y e = absurd cc
 and_then_from f (Some x) y e = (x, refl, e)
 

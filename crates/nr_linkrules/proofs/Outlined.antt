@@ -31,7 +31,7 @@ use Rattle.nr_linkrules.proofs.Parts.{drop_map, two_parts}
 
 -- ---- the entries of an outline
 
-outlined_at : (names : List (List ℕ)) (first : ℕ) (classes : List Loaded) (k : ℕ) (l : Loaded) → slice_get classes k ≡ Some l
+pub outlined_at : (names : List (List ℕ)) (first : ℕ) (classes : List Loaded) (k : ℕ) (l : Loaded) → slice_get classes k ≡ Some l
     → slice_get (outline_classes names first classes) k ≡ Some (outline_class names (first + method_count (take k classes)) l.«class»)
 unfolding outline_classes
 outlined_at names first [] k l at = absurd cc
@@ -44,18 +44,27 @@ outlined_at names first (m ∷ ls) (suc k) l at =
     let e : first + length m.«class».methods + method_count (take k ls) ≡ first + method_count (take (suc k) (m ∷ ls)) = omega (arith, sum) in
     outlined_at names (first + length m.«class».methods) ls k l at ∙ ap (λ n. Some (outline_class names n l.«class»)) e
 
-outlined_length : (names : List (List ℕ)) (first : ℕ) (classes : List Loaded) → length (outline_classes names first classes) ≡ length classes
+pub outlined_length : (names : List (List ℕ)) (first : ℕ) (classes : List Loaded) → length (outline_classes names first classes) ≡ length classes
 unfolding outline_classes
 outlined_length names first [] = refl
 outlined_length names first (l ∷ ls) = let rest = outlined_length names (first + length l.«class».methods) ls in omega (arith, rest)
 
-built_in_names : (a m : ℕ) → map (λ (e : ClassInfo). e.name) (built_in_infos a m) ≡ map (λ b. (built_in_class b).name) built_ins
+pub built_in_names : (a m : ℕ) → map (λ (e : ClassInfo). e.name) (built_in_infos a m) ≡ map (λ b. (built_in_class b).name) built_ins
 unfolding built_in_infos built_in_info
 built_in_names a m = refl
 
-bare_built_ins : (a m : ℕ) → map bare_class (built_in_infos a m) ≡ built_in_infos a m
+pub bare_built_ins : (a m : ℕ) → map bare_class (built_in_infos a m) ≡ built_in_infos a m
 unfolding bare_class built_in_infos built_in_info
 bare_built_ins a m = refl
+
+-- the entry of a class that was loaded, without what linking finds
+pub bare_loaded : (e : ClassInfo) (parts : ClassParts) → e.read ≡ Some parts → bare_class e ≡ record e { supers = []; slots = [] }
+unfolding bare_class
+bare_loaded e parts r = ap (λ o. option_map_or (λ (parts : ClassParts). record e { supers = []; slots = [] }) o e) r
+
+pub bare_built_in : (e : ClassInfo) → e.read ≡ None → bare_class e ≡ e
+unfolding bare_class
+bare_built_in e r = ap (λ o. option_map_or (λ (parts : ClassParts). record e { supers = []; slots = [] }) o e) r
 
 module _ (classes : List Loaded) (P : ProgramTables) (links : Links classes P) where
   pub loaded_count : first_built_in P ≡ length classes
@@ -132,10 +141,6 @@ module _ (classes : List Loaded) (P : ProgramTables) (links : Links classes P) w
       → e.first_method ≡ f.first_method → e.methods ≡ f.methods → e.read ≡ f.read → e ≡ f
   entry_same e f name flags super_class interfaces supers slots first_method methods read =
       λ i. record { name = name i; flags = flags i; super_class = super_class i; interfaces = interfaces i; supers = supers i; slots = slots i; first_method = first_method i; methods = methods i; read = read i }
-
-  pub bare_loaded : (e : ClassInfo) (parts : ClassParts) → e.read ≡ Some parts → bare_class e ≡ record e { supers = []; slots = [] }
-  unfolding bare_class
-  bare_loaded e parts r = ap (λ o. option_map_or (λ (parts : ClassParts). record e { supers = []; slots = [] }) o e) r
 
   entry_is : (k : ℕ) (l : Loaded) → slice_get classes k ≡ Some l → (a : At k l) → bare_class a.e ≡ outline_class (names_of classes) (method_count (take k classes)) l.«class»
   unfolding outline_class

@@ -48,7 +48,7 @@ unfolding own_methods
 own_length c l decoded =
     length-map (zip l.«class».methods l.bodies) (outline_method c l.«class».pool) ∙ zip_length l.«class».methods l.bodies (one_body_each l decoded)
 
-outlined_length : (c : ℕ) (classes : List Loaded) → All IsDecoded classes → length (outline_methods c classes) ≡ method_count classes
+pub outlined_length : (c : ℕ) (classes : List Loaded) → All IsDecoded classes → length (outline_methods c classes) ≡ method_count classes
 unfolding outline_methods own_methods
 outlined_length c [] all = refl
 outlined_length c (l ∷ ls) all =

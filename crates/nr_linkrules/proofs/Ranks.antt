@@ -72,7 +72,7 @@ module _ (P : ProgramTables) (short : HasSteps P) (none : (c : ℕ) → is_above
   pub rank : ℕ → ℕ
   rank c = count (apart c) (length P.classes)
 
-  no_cycle : (c s : ℕ) → IsTrue (is_step P c s) → IsTrue (reaches P s c) → ⊥
+  pub no_cycle : (c s : ℕ) → IsTrue (is_step P c s) → IsTrue (reaches P s c) → ⊥
   no_cycle c s step back = both_ways (is_above_itself P c) (none c) (found (steps_up P c) step)
     where
       found : (ss : List ℕ) → IsTrue (is_listed s ss) → IsTrue (list_any (λ s. reaches P s c) ss)

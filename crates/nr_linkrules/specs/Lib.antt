@@ -6,5 +6,6 @@ pub mod ClassRules
 pub mod SiteRules
 pub mod LinkFaults
 pub mod Completion
+pub mod Readable
 pub mod Mains
 pub mod Examples
