@@ -28,7 +28,7 @@ module _ (P : ProgramTables) (Q : ℕ → ℕ → Type 0) (h g : Heap) (q : Matc
   has_copy : (x y : ℕ) → get c.copies x ≢ None → Q x y → get d.copies y ≢ None
   has_copy x y n r =
       let o = c.originals x n in
-      let b = reach_over P Q h g q us vs like x o.0 in
+      let b = reach_over Q h g q us vs like x o.0 in
       let reached : Reach g (Holds vs) y = subst (Reach g (Holds vs)) (q.one_right x b.0 y b.1 r) b.2 in
       sum_left (d.whole y reached) (λ s. absurd (o.1 (shared_back x y r s))) (λ m. m)
 

@@ -63,13 +63,14 @@ no_key_below e es s i = key_found es e.0 i (find_below_names e.0 es (first _ _ s
 
 -- ---- what is reached on both sides
 
-module _ (P : ProgramTables) (Q : ℕ → ℕ → Type 0) (h g : Heap) (q : Matched Q h g) (us vs : List Value) (like : AllLike Q us vs) where
+module _ (Q : ℕ → ℕ → Type 0) (h g : Heap) (q : Matched Q h g) (us vs : List Value) (like : AllLike Q us vs) where
   pub reach_over : (x : ℕ) → Reach h (Holds us) x → (y : ℕ) × Q x y × Reach g (Holds vs) y
   reach_over x r =
       let b = slot_over Q h g q us vs r.1.0 r.0 like r.1.1 in
       let y = path_over Q h g q r.2 r.0 b.0 x b.2 r.3 in
       (y.0, y.2, (b.0, (r.1.0, b.1), r.2, y.1))
 
+module _ (P : ProgramTables) (Q : ℕ → ℕ → Type 0) (h g : Heap) (q : Matched Q h g) (us vs : List Value) (like : AllLike Q us vs) where
   restorable_over : (o p : Option Obj) → AlikeAt Q o p → IsSomeAnd o (λ o. IsTrue (is_restorable P o.kind)) → IsSomeAnd p (λ o. IsTrue (is_restorable P o.kind))
   restorable_over o p (alike_at b) r = subst (λ k. IsTrue (is_restorable P k)) b.kind r
 

@@ -3,7 +3,7 @@ use Rattle.std.proofs.Common.{◌≡◌, ◌≢◌, ℕ, zero, suc, ◌+◌, ◌
 use Rattle.std.specs.Prelude.{Option, Some, None, slice_get}
 use Rattle.std.specs.FinMap.{get, find, entries, empty, get-empty}
 use Rattle.std.specs.Ordering.{nat_cmp}
-use Rattle.nr_model.specs.Heaps.{Obj, Heap, cells_of, total_cells, cells, cells_named, on_some}
+use Rattle.nr_model.specs.Heaps.{Obj, Heap, cells_of, total_cells, cells, cells_named, Has, EachOnce, on_some}
 use Rattle.nr_model.specs.declared.value.Value.{Value}
 use Rattle.nr_model.specs.Example.{heap}
 use Rattle.nr_model.specs.Pairs.{Reach, Holds}
@@ -14,13 +14,6 @@ use Rattle.nr_model.proofs.Heaps.{sum_left}
 use Rattle.nr_model.proofs.Paths.{none_some, some_eq}
 use Rattle.nr_model.proofs.Copies.{some_there}
 use Rattle.nr_model.proofs.Sizes.{Among, Apart, found_among, among_found, all_apart, there_among, among_there, part, among_part, part_among, apart_part, total_parts, known, known_some, known_there, unknown_none, none_unknown, fewer, cells_eq}
-
--- no name stands at two places
-abbrev pub EachOnce : List ℕ → Type 0
-EachOnce xs = (i j x : ℕ) → slice_get xs i ≡ Some x → slice_get xs j ≡ Some x → i ≡ j
-
-abbrev pub IsAt : List ℕ → ℕ → Type 0
-IsAt xs x = (i : ℕ) × (slice_get xs i ≡ Some x)
 
 module _ (h : Heap) where
   abbrev named : List ℕ → List (ℕ × Obj)
@@ -35,11 +28,11 @@ module _ (h : Heap) where
       go None e = omega (arith, e)
       go (Some o) e = omega (arith, e)
 
-  among_named : (xs : List ℕ) (e : ℕ × Obj) → Among e (named xs) → (get h e.0 ≡ Some e.1) × IsAt xs e.0
+  among_named : (xs : List ℕ) (e : ℕ × Obj) → Among e (named xs) → (get h e.0 ≡ Some e.1) × Has xs e.0
   among_named [] e i = absurd i
   among_named (x ∷ xs) e i = go (get h x) refl i (among_named xs e)
     where
-      go : (o : Option Obj) → get h x ≡ o → Among e (on_some o (named xs) (λ o. (x, o) ∷ named xs)) → (Among e (named xs) → (get h e.0 ≡ Some e.1) × IsAt xs e.0) → (get h e.0 ≡ Some e.1) × IsAt (x ∷ xs) e.0
+      go : (o : Option Obj) → get h x ≡ o → Among e (on_some o (named xs) (λ o. (x, o) ∷ named xs)) → (Among e (named xs) → (get h e.0 ≡ Some e.1) × Has xs e.0) → (get h e.0 ≡ Some e.1) × Has (x ∷ xs) e.0
       go None f i rec = let r = rec i in (r.0, (suc r.1.0, r.1.1))
       go (Some o) f (inl i) rec = (subst (λ (d : ℕ × Obj). get h d.0 ≡ Some d.1) (sym i) f, (zero, ap (λ (d : ℕ × Obj). Some d.0) (sym i)))
       go (Some o) f (inr i) rec = let r = rec i in (r.0, (suc r.1.0, r.1.1))
@@ -67,8 +60,8 @@ module _ (h : Heap) where
       go None a = a
       go (Some o) a = (λ d i e. let r = among_named xs d i in first r.1.0 (once zero (suc r.1.0) d.0 (ap Some (sym e)) r.1.1), a)
 
-module _ (h r : Heap) (xs : List ℕ) (once : EachOnce xs) (kept : Stays h r) (new : (x : ℕ) → IsAt xs x → get h x ≡ None)
-    (no_more : (x : ℕ) → get r x ≢ None → (get h x ≢ None) ⊎ IsAt xs x) where
+module _ (h r : Heap) (xs : List ℕ) (once : EachOnce xs) (kept : Stays h r) (new : (x : ℕ) → Has xs x → get h x ≡ None)
+    (no_more : (x : ℕ) → get r x ≢ None → (get h x ≢ None) ⊎ Has xs x) where
   eq_left : (x y z : ℕ) → x ≡ z → y ≡ z → x ≡ y
   eq_left x y z e f = e ∙ sym f
 
@@ -105,7 +98,7 @@ module _ (h r : Heap) (xs : List ℕ) (once : EachOnce xs) (kept : Stays h r) (n
       omega (arith, whole, counted, old_more, old_less, new_more, new_less)
 
 -- a heap whose names are listed
-pub all_counted : (h : Heap) (xs : List ℕ) → EachOnce xs → ((x : ℕ) → get h x ≢ None → IsAt xs x) → cells h ≡ cells_named h xs
+pub all_counted : (h : Heap) (xs : List ℕ) → EachOnce xs → ((x : ℕ) → get h x ≢ None → Has xs x) → cells h ≡ cells_named h xs
 all_counted h xs once all =
     let none : cells empty ≤ 0 = fewer (λ x y. x ≡ y) (λ x y z e f. e ∙ sym f) (entries empty) [] (all_apart empty) (λ e i not_there. none_some (sym (get-empty nat_cmp e.0) ∙ among_there empty e i)) in
     let e : cells h ≡ cells empty + cells_named h xs = grown_by empty h xs once
@@ -114,14 +107,14 @@ all_counted h xs once all =
     omega (arith, e, none)
 
 -- the part of a heap that arguments reach, where a list has just the names that they reach
-pub part_exists : (h : Heap) (us : List Value) (xs : List ℕ) → EachOnce xs → ((x : ℕ) → Reach h (Holds us) x → IsAt xs x) → ((x : ℕ) → IsAt xs x → Reach h (Holds us) x) → (part : Heap) × IsPart h us part
+pub part_exists : (h : Heap) (us : List Value) (xs : List ℕ) → EachOnce xs → ((x : ℕ) → Reach h (Holds us) x → Has xs x) → ((x : ℕ) → Has xs x → Reach h (Holds us) x) → (part : Heap) × IsPart h us part
 part_exists h us xs once to from = (heap (named h xs), record { reached = reached; no_more = λ x n. from x (held x (find nat_cmp x (named h xs)) refl (λ e. n (at (named h xs) x ∙ e))) })
   where
-    held : (x : ℕ) (o : Option Obj) → find nat_cmp x (named h xs) ≡ o → find nat_cmp x (named h xs) ≢ None → IsAt xs x
+    held : (x : ℕ) (o : Option Obj) → find nat_cmp x (named h xs) ≡ o → find nat_cmp x (named h xs) ≢ None → Has xs x
     held x None e n = absurd (n e)
     held x (Some o) e n = (among_named h xs (x, o) (found_among (named h xs) x o e)).1
 
-    same : (x : ℕ) (o q : Option Obj) → IsAt xs x → get h x ≡ o → find nat_cmp x (named h xs) ≡ q → find nat_cmp x (named h xs) ≡ get h x
+    same : (x : ℕ) (o q : Option Obj) → Has xs x → get h x ≡ o → find nat_cmp x (named h xs) ≡ q → find nat_cmp x (named h xs) ≡ get h x
     same x (Some o) q i f e = among_found (named h xs) (named_apart h xs once) (x, o) (named_among h xs i.0 x o i.1 f) ∙ sym f
     same x None None i f e = e ∙ sym f
     same x None (Some o) i f e = absurd (none_some (sym f ∙ (among_named h xs (x, o) (found_among (named h xs) x o e)).0))

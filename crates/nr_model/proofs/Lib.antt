@@ -35,3 +35,6 @@ pub mod Lone
 pub mod Following
 pub mod Completing
 pub mod Counting
+pub mod Limits
+pub mod AskOutcomes
+pub mod Printed

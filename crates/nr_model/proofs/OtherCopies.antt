@@ -31,7 +31,7 @@ module _ (P : ProgramTables) (Q : ℕ → ℕ → Type 0) (h g : Heap) (q : Matc
   copied_key x n = found_key (entries c.copies) x (λ e. n (get-entries c.copies x ∙ e))
 
   partners : (x : ℕ) → IsKey keys x → (y : ℕ) × Q x y
-  partners x i = let r = reach_over P Q h g q us vs like x (c.originals x (key_copied x i)).0 in (r.0, r.1)
+  partners x i = let r = reach_over Q h g q us vs like x (c.originals x (key_copied x i)).0 in (r.0, r.1)
 
   bound : ℕ
   bound = above_all g
@@ -51,7 +51,7 @@ module _ (P : ProgramTables) (Q : ℕ → ℕ → Type 0) (h g : Heap) (q : Matc
 
   -- what stands on one side stands on the other
   back : (y : ℕ) → Reach g (Holds vs) y → (x : ℕ) × Q x y × Reach h (Holds us) x
-  back y r = reach_over P (Back Q) g h (back_matched Q h g q) vs us (all_back Q us vs like) y r
+  back y r = reach_over (Back Q) g h (back_matched Q h g q) vs us (all_back Q us vs like) y r
 
   shared_back : (x y : ℕ) → Q x y → IsShared P g vs y → IsShared P h us x
   shared_back x y r s = shared_over P (Back Q) g h (back_matched Q h g q) vs us (all_back Q us vs like) y x r s
@@ -79,7 +79,7 @@ module _ (P : ProgramTables) (Q : ℕ → ℕ → Type 0) (h g : Heap) (q : Matc
       go (Some z) e n =
           let x = copied_from y z e in
           let o = c.originals x.0 (key_copied x.0 x.1) in
-          let r = reach_over P Q h g q us vs like x.0 o.0 in
+          let r = reach_over Q h g q us vs like x.0 o.0 in
           (subst (Reach g (Holds vs)) (q.one_right x.0 r.0 y r.1 x.2) r.2, λ s. o.1 (shared_back x.0 y x.2 s))
 
   pub other_copies : CopyArgs P g vs other_heap other_args

@@ -34,10 +34,20 @@ module _ (P : ProgramTables) (R : ℕ → ℕ → Type 0) where
   deep_alike c d (both_return l) = refl
   deep_alike c d (both_throw l) = refl
 
-  passed_alike : (s t : State) → AlikeState R s t → cells s.heap ≡ cells t.heap → passed P s ≡ passed P t
+  pub passed_alike : (s t : State) → AlikeState R s t → cells s.heap ≡ cells t.heap → passed P s ≡ passed P t
   passed_alike s t a c =
       ap₂ (λ n b. if nat_lt max_cells n then Some HeapFull else b) c
       (ap₂ (λ b n. if b then Some TooDeep else (if nat_lt max_printed n then Some OutputTooLong else None)) (deep_alike s.control t.control a.control) (ap length a.printed))
+
+-- an end is no limit
+pub passes_no_end : (P : ProgramTables) (s : State) → passed P s ≡ Some Ended → ⊥
+passes_no_end P s e = choose (nat_lt max_cells (cells s.heap)) (is_too_deep P s.control) (nat_lt max_printed (length s.printed)) e
+  where
+    choose : (a b c : Bool) → (if a then Some HeapFull else (if b then Some TooDeep else (if c then Some OutputTooLong else None))) ≡ Some Ended → ⊥
+    choose true b c e = cc
+    choose false true c e = cc
+    choose false false true e = cc
+    choose false false false e = cc
 
 -- two machines that agree, with heaps of one size
 pub record Level (R : ℕ → ℕ → Type 0) (s t : State) : Type 0 where
@@ -53,7 +63,7 @@ pub record LaterFate (R : ℕ → ℕ → Type 0) (n k : ℕ) (f g : Fate) (s t 
   pub level : Level now s t
 
 module _ (P : ProgramTables) where
-  level_after : (R : ℕ → ℕ → Type 0) (s t s' t' : State) → Level R s t → (l : LaterState R s t s' t') → Level l.now s' t'
+  pub level_after : (R : ℕ → ℕ → Type 0) (s t s' t' : State) → Level R s t → (l : LaterState R s t s' t') → Level l.now s' t'
   level_after R s t s' t' a l = record { alike = l.alike; size = omega (arith, l.moved.grown, a.size) }
 
   fates_differ : (R : ℕ → ℕ → Type 0) (s t : State) (f : Fate) → Level R s t → passed P s ≡ Some f → passed P t ≡ None → ⊥
@@ -111,16 +121,7 @@ module _ (P : ProgramTables) where
         where
           bad : BudgetSpent ≡ Ended → ⊥
           bad e = cc
-      go s t b n f (limited m p e) i = absurd (never m (e ∙ ap Some i))
-        where
-          never : (m : State) → passed P m ≡ Some Ended → ⊥
-          never m e = choose (nat_lt max_cells (cells m.heap)) (is_too_deep P m.control) (nat_lt max_printed (length m.printed)) e
-            where
-              choose : (a b c : Bool) → (if a then Some HeapFull else (if b then Some TooDeep else (if c then Some OutputTooLong else None))) ≡ Some Ended → ⊥
-              choose true b c e = cc
-              choose false true c e = cc
-              choose false false true e = cc
-              choose false false false e = cc
+      go s t b n f (limited m p e) i = absurd (passes_no_end P m (e ∙ ap Some i))
       go s t b n f (further m p e o) i = let r = go m t _ _ f o i in ((m, p, r.0), r.1, omega (arith, r.2))
 
 module _ (P : ProgramTables) (ps : List (ℕ × ℕ)) (s t s' : State) (b n : ℕ) (f : Fate) (a : PairedStates ps s t) (size : cells s.heap ≡ cells t.heap) (o : Outcome P s b n f s') where

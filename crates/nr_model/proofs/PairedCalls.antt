@@ -114,38 +114,37 @@ module _ (ps : List (ℕ × ℕ)) (h k : Heap) (us vs : List Value) (p : PairedC
     pub parts_paired : (qs : List (ℕ × ℕ)) → ((x y : ℕ) → Listed qs x y → IsPair (AtPlace us vs) h k x y) → PairedCalls qs part us part' vs
     parts_paired qs listed = alike_calls qs In part part' in_matched us vs args_in (λ x y i. rooted_pair x y (listed x y i))
 
-    module _ (P : ProgramTables) where
-      to_right : (x : ℕ) → get part x ≢ None → (y : ℕ) × In x y
-      to_right x n =
-          let r = c.no_more x n in
-          let y = reach_over P CallPairs h k calls_match us vs args_match x r in
-          (y.0, (y.1, r, y.2))
+    to_right : (x : ℕ) → get part x ≢ None → (y : ℕ) × In x y
+    to_right x n =
+        let r = c.no_more x n in
+        let y = reach_over CallPairs h k calls_match us vs args_match x r in
+        (y.0, (y.1, r, y.2))
 
-      to_left : (y : ℕ) → get part' y ≢ None → (x : ℕ) × In x y
-      to_left y n =
-          let r = d.no_more y n in
-          let x = reach_over P (Back CallPairs) k h (back_matched CallPairs h k calls_match) vs us (all_back CallPairs us vs args_match) y r in
-          (x.0, (x.1, x.2, r))
+    to_left : (y : ℕ) → get part' y ≢ None → (x : ℕ) × In x y
+    to_left y n =
+        let r = d.no_more y n in
+        let x = reach_over (Back CallPairs) k h (back_matched CallPairs h k calls_match) vs us (all_back CallPairs us vs args_match) y r in
+        (x.0, (x.1, x.2, r))
 
-      pub parts_one_size : cells part ≡ cells part'
-      parts_one_size =
-          let less : cells part ≤ cells part' = fewer_cells In in_matched.one_left part part' (λ x o e.
-          let y = to_right x (λ n. none_some (sym n ∙ e)) in
-          (y.0, y.1, alike_long In (get part x) (get part' y.0) o (in_at x y.0 y.1) e)) in
-          let more : cells part' ≤ cells part = fewer_cells (Back In) (λ x y z a b. in_matched.one_right z x y a b) part' part (λ y o e.
-          let x = to_left y (λ n. none_some (sym n ∙ e)) in
-          (x.0, x.1, alike_long (Back In) (get part' y) (get part x.0) o ((back_matched In part part' in_matched).alike y x.0 x.1) e)) in
-          omega (arith, less, more)
+    pub parts_one_size : cells part ≡ cells part'
+    parts_one_size =
+        let less : cells part ≤ cells part' = fewer_cells In in_matched.one_left part part' (λ x o e.
+        let y = to_right x (λ n. none_some (sym n ∙ e)) in
+        (y.0, y.1, alike_long In (get part x) (get part' y.0) o (in_at x y.0 y.1) e)) in
+        let more : cells part' ≤ cells part = fewer_cells (Back In) (λ x y z a b. in_matched.one_right z x y a b) part' part (λ y o e.
+        let x = to_left y (λ n. none_some (sym n ∙ e)) in
+        (x.0, x.1, alike_long (Back In) (get part' y) (get part x.0) o ((back_matched In part part' in_matched).alike y x.0 x.1) e)) in
+        omega (arith, less, more)
 
-      -- each object of one part has its kind and length in the other
-      pub parts_kinds : (y : ℕ) (q : Obj) → get part' y ≡ Some q → (x : ℕ) × (o : Obj) × (get part x ≡ Some o) × (o.kind ≡ q.kind) × (length o.slots ≡ length q.slots)
-      parts_kinds y q e =
-          let x = to_left y (λ n. none_some (sym n ∙ e)) in
-          let w = find_kind (get part x.0) (get part' y) (in_at x.0 y x.1) e in
-          (x.0, w.0, w.1, w.2, w.3)
-        where
-          find_kind : (a b : Option Obj) → AlikeAt In a b → b ≡ Some q → (o : Obj) × (a ≡ Some o) × (o.kind ≡ q.kind) × (length o.slots ≡ length q.slots)
-          find_kind a b (alike_at {o = u} {p = v} s) e = (u, refl, s.kind ∙ ap (λ (o : Obj). o.kind) (some_eq e), lengths In _ _ s.slots ∙ ap (λ (o : Obj). length o.slots) (some_eq e))
+    -- each object of one part has its kind and length in the other
+    pub parts_kinds : (y : ℕ) (q : Obj) → get part' y ≡ Some q → (x : ℕ) × (o : Obj) × (get part x ≡ Some o) × (o.kind ≡ q.kind) × (length o.slots ≡ length q.slots)
+    parts_kinds y q e =
+        let x = to_left y (λ n. none_some (sym n ∙ e)) in
+        let w = find_kind (get part x.0) (get part' y) (in_at x.0 y x.1) e in
+        (x.0, w.0, w.1, w.2, w.3)
+      where
+        find_kind : (a b : Option Obj) → AlikeAt In a b → b ≡ Some q → (o : Obj) × (a ≡ Some o) × (o.kind ≡ q.kind) × (length o.slots ≡ length q.slots)
+        find_kind a b (alike_at {o = u} {p = v} s) e = (u, refl, s.kind ∙ ap (λ (o : Obj). o.kind) (some_eq e), lengths In _ _ s.slots ∙ ap (λ (o : Obj). length o.slots) (some_eq e))
 
 -- ---- their outcomes
 

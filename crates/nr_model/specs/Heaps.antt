@@ -1,5 +1,5 @@
 -- Heaps (JVM Specification 2.5.3): finite maps from names to objects and arrays.
-use Rattle.std.specs.Prelude.{ℕ, ◌+◌, List, [], ◌∷◌, length, Option, Some, None}
+use Rattle.std.specs.Prelude.{◌≡◌, ℕ, ◌+◌, List, [], ◌∷◌, length, Option, Some, None, slice_get}
 use Rattle.std.specs.Ordering.{nat_cmp}
 use Rattle.std.specs.FinMap.{FinMap, entries, get}
 use Rattle.nr_linked.specs.declared.program.kind.Kind.{Kind}
@@ -29,6 +29,16 @@ cells h = total_cells (entries h)
 abbrev pub on_some : {X Y : Type 0} → Option X → Y → (X → Y) → Y
 on_some None y f = y
 on_some (Some x) y f = f x
+
+-- ---- lists of names
+
+-- the name stands in the list
+abbrev pub Has : List ℕ → ℕ → Type 0
+Has names x = (i : ℕ) × (slice_get names i ≡ Some x)
+
+-- no name stands at two places
+abbrev pub EachOnce : List ℕ → Type 0
+EachOnce names = (i j x : ℕ) → slice_get names i ≡ Some x → slice_get names j ≡ Some x → i ≡ j
 
 -- the cells of the objects that the heap has under these names
 abbrev pub cells_named : Heap → List ℕ → ℕ

@@ -25,3 +25,5 @@ pub mod Types
 pub mod Belonging
 pub mod TypedHeaps
 pub mod TypedAnswers
+pub mod AskOutcomes
+pub mod Printed

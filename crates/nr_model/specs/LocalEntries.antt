@@ -1,5 +1,5 @@
 -- When the answers of remote calls are those of local runs (the project's own).
-use Rattle.std.specs.Prelude.{◌≡◌, ◌≢◌, ℕ, suc, Bool, true, false, ◌⊎◌, List, [], ◌∷◌, Option, None}
+use Rattle.std.specs.Prelude.{◌≡◌, ◌≢◌, ℕ, suc, Bool, true, false, ◌⊎◌, ◌↔◌, IsTrue, List, [], ◌∷◌, Option, None}
 use Rattle.std.specs.FinMap.{get}
 use Rattle.nr_linked.specs.declared.program.tables.ProgramTables.{ProgramTables}
 use Rattle.nr_model.specs.declared.value.Value.{Value}
@@ -72,6 +72,11 @@ pub record IsOwn (P : ProgramTables) (e : Entry) : Type 0 where
 abbrev pub EachOwn : ProgramTables → List Entry → Type 0
 EachOwn P [] = Unit {0}
 EachOwn P (e ∷ es) = IsOwn P e × AllRestorable P e.before e.args × EachOwn P es
+
+-- the calls from number n on: those that the test names met a fault, and no others
+abbrev pub FaultedWhere : (ℕ → Bool) → ℕ → List Entry → Type 0
+FaultedWhere faulted n [] = Unit {0}
+FaultedWhere faulted n (e ∷ es) = (IsFaulted e ↔ IsTrue (faulted n)) × FaultedWhere faulted (suc n) es
 
 -- a call that met a fault, or else was answered by a local run
 abbrev pub Fated : ProgramTables → Bool → Entry → Type 0

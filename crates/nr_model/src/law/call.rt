@@ -1,11 +1,11 @@
 //! Calls of one method from two heaps that agree but for names.
 
-ghost use Rattle.std.specs.Prelude.{◌≡◌, ◌≢◌, ℕ, List, [], ◌∷◌, length, Some, None, slice_get};
+ghost use Rattle.std.specs.Prelude.{◌≡◌, ◌≢◌, ℕ, List, [], ◌∷◌, length, Some, None};
 ghost use Rattle.std.specs.FinMap.{empty, get, insert};
 ghost use Rattle.nr_linked.specs.declared.program.tables.ProgramTables.{ProgramTables};
 ghost use Rattle.nr_model.specs.declared.value.Value.{Value};
 ghost use Rattle.nr_model.specs.declared.value.Value.TheVariants.{Ref};
-ghost use Rattle.nr_model.specs.Heaps.{Heap, Obj, cells};
+ghost use Rattle.nr_model.specs.Heaps.{EachOnce, Has, Heap, Obj, cells};
 ghost use Rattle.nr_model.specs.States.{State};
 ghost use Rattle.nr_model.specs.Outcomes.{CallOutcome, Fate};
 ghost use Rattle.nr_model.specs.Pairs.{AtPlace, Holds, IsClosed, IsPair, Listed, NamedIn, PairedStates, Reach, name_at};
@@ -33,17 +33,16 @@ pub fn paired_calls_go_alike()
 /// and for each object of one an object of its kind and length in the other. It does nothing.
 pub fn parts_are_paired()
     ensures exists { (h : Heap) (us : List Value) (names : List ℕ)
-        → ((i j x : ℕ) → slice_get names i ≡ Some x → slice_get names j ≡ Some x → i ≡ j)
-        → ((x : ℕ) → Reach h (Holds us) x → (i : ℕ) × (slice_get names i ≡ Some x))
-        → ((x : ℕ) → (i : ℕ) × (slice_get names i ≡ Some x) → Reach h (Holds us) x)
+        → EachOnce names → ((x : ℕ) → Reach h (Holds us) x → Has names x)
+        → ((x : ℕ) → Has names x → Reach h (Holds us) x)
         → (part : Heap) × IsPart h us part }
     ensures whole { (h part : Heap) (us : List Value) → IsPart h us part → IsPart part us part }
     ensures paired { (pairs others : List (ℕ × ℕ)) (h k part other : Heap) (us vs : List Value)
         → PairedCalls pairs h us k vs → IsPart h us part → IsPart k vs other
         → ((x y : ℕ) → Listed others x y → IsPair (AtPlace us vs) h k x y) → PairedCalls others part us other vs }
-    ensures one_size { (p : ProgramTables) (pairs : List (ℕ × ℕ)) (h k part other : Heap) (us vs : List Value)
+    ensures one_size { (pairs : List (ℕ × ℕ)) (h k part other : Heap) (us vs : List Value)
         → PairedCalls pairs h us k vs → IsPart h us part → IsPart k vs other → cells part ≡ cells other }
-    ensures kinds { (p : ProgramTables) (pairs : List (ℕ × ℕ)) (h k part other : Heap) (us vs : List Value) (y : ℕ) (q : Obj)
+    ensures kinds { (pairs : List (ℕ × ℕ)) (h k part other : Heap) (us vs : List Value) (y : ℕ) (q : Obj)
         → PairedCalls pairs h us k vs → IsPart h us part → IsPart k vs other → get other y ≡ Some q
         → (x : ℕ) × (o : Obj) × (get part x ≡ Some o) × (o.kind ≡ q.kind) × (length o.slots ≡ length q.slots) }
 {}

@@ -1,9 +1,9 @@
 //! Sizes of paired heaps, and what a run keeps of each object.
 
-ghost use Rattle.std.specs.Prelude.{◌≡◌, ◌≢◌, ℕ, ◌+◌, ◌≤◌, ◌⊎◌, List, Some, None, slice_get};
+ghost use Rattle.std.specs.Prelude.{◌≡◌, ◌≢◌, ℕ, ◌+◌, ◌≤◌, ◌⊎◌, List, None};
 ghost use Rattle.std.specs.FinMap.{get};
 ghost use Rattle.nr_linked.specs.declared.program.tables.ProgramTables.{ProgramTables};
-ghost use Rattle.nr_model.specs.Heaps.{Heap, cells, cells_named};
+ghost use Rattle.nr_model.specs.Heaps.{EachOnce, Has, Heap, cells, cells_named};
 ghost use Rattle.nr_model.specs.States.{State};
 ghost use Rattle.nr_model.specs.Steps.{Run};
 ghost use Rattle.nr_model.specs.Pairs.{IsPair, Listed, Paired};
@@ -31,11 +31,9 @@ pub fn runs_keep_lengths()
 /// lengths, and has but these names more, its cells are those of the other and of these. It does nothing.
 pub fn cells_are_counted()
     ensures all { (h : Heap) (names : List ℕ)
-        → ((i j x : ℕ) → slice_get names i ≡ Some x → slice_get names j ≡ Some x → i ≡ j)
-        → ((x : ℕ) → get h x ≢ None → (i : ℕ) × (slice_get names i ≡ Some x)) → cells h ≡ cells_named h names }
+        → EachOnce names → ((x : ℕ) → get h x ≢ None → Has names x) → cells h ≡ cells_named h names }
     ensures grown { (h k : Heap) (names : List ℕ)
-        → ((i j x : ℕ) → slice_get names i ≡ Some x → slice_get names j ≡ Some x → i ≡ j)
-        → Stays h k → ((x : ℕ) → (i : ℕ) × (slice_get names i ≡ Some x) → get h x ≡ None)
-        → ((x : ℕ) → get k x ≢ None → (get h x ≢ None) ⊎ ((i : ℕ) × (slice_get names i ≡ Some x)))
+        → EachOnce names → Stays h k → ((x : ℕ) → Has names x → get h x ≡ None)
+        → ((x : ℕ) → get k x ≢ None → (get h x ≢ None) ⊎ Has names x)
         → cells k ≡ cells h + cells_named k names }
 {}

@@ -12,7 +12,7 @@ pub returns-clause-paired : goal.returns-clause-paired
 returns-clause-paired c = λ pairs others h k part other us vs a i j listed. parts_paired pairs h k us vs a part other i j others listed
 
 pub returns-clause-one_size : goal.returns-clause-one_size
-returns-clause-one_size c = λ p pairs h k part other us vs a i j. parts_one_size pairs h k us vs a part other i j p
+returns-clause-one_size c = λ pairs h k part other us vs a i j. parts_one_size pairs h k us vs a part other i j
 
 pub returns-clause-kinds : goal.returns-clause-kinds
-returns-clause-kinds c = λ p pairs h k part other us vs y q a i j e. parts_kinds pairs h k us vs a part other i j p y q e
+returns-clause-kinds c = λ pairs h k part other us vs y q a i j e. parts_kinds pairs h k us vs a part other i j y q e
