@@ -1,0 +1,5 @@
+pub mod Lanes
+pub mod Slots
+pub mod Maps
+pub mod Arenas
+pub mod Views

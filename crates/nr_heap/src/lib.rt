@@ -1,0 +1,8 @@
+//! The heap of the machine in code: objects and arrays in one arena of words (JVM Specification 2.5.3).
+#![tactic(auto)]
+
+mod form;
+mod heap;
+mod place;
+
+pub use heap::Heap;
