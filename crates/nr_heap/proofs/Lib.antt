@@ -3,3 +3,4 @@ pub mod Slots
 pub mod Maps
 pub mod Arenas
 pub mod Views
+pub mod Makes

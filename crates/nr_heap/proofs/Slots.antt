@@ -76,6 +76,12 @@ module _ {X Y : Type 0} where
   zip_length (x ∷ xs) [] e = absurd (omega arith)
   zip_length (x ∷ xs) (y ∷ ys) e = ap suc (zip_length xs ys (omega arith))
 
+  pub zip_append : (xs zs : List X) (ys us : List Y) → length xs ≡ length ys → zip (xs ++ zs) (ys ++ us) ≡ zip xs ys ++ zip zs us
+  zip_append [] zs [] us e = refl
+  zip_append [] zs (y ∷ ys) us e = absurd (omega arith)
+  zip_append (x ∷ xs) zs [] us e = absurd (omega arith)
+  zip_append (x ∷ xs) zs (y ∷ ys) us e = ap (λ ps. (x, y) ∷ ps) (zip_append xs zs ys us (omega arith))
+
   pub zip_get : (xs : List X) (ys : List Y) (i : ℕ) (x : X) (y : Y) → slice_get xs i ≡ Some x → slice_get ys i ≡ Some y → slice_get (zip xs ys) i ≡ Some (x, y)
   zip_get [] ys i x y e f = absurd (none_some e)
   zip_get (a ∷ xs) [] i x y e f = absurd (none_some f)
