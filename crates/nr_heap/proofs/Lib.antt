@@ -4,3 +4,5 @@ pub mod Maps
 pub mod Arenas
 pub mod Views
 pub mod Makes
+pub mod Cuts
+pub mod Runs

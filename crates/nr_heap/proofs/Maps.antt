@@ -41,7 +41,7 @@ slice_get-push_other [] (suc j) o n = refl
 slice_get-push_other (p ∷ os) zero o n = refl
 slice_get-push_other (p ∷ os) (suc j) o n = slice_get-push_other os j o (λ e. n (ap suc e))
 
-same_heap : (h k : Heap) → ((q : ℕ) → get h q ≡ get k q) → h ≡ k
+pub same_heap : (h k : Heap) → ((q : ℕ) → get h q ≡ get k q) → h ≡ k
 same_heap h k e = same_map nat_cmp_total nat_cmp-IsAntisymmetric h k e
 
 pub map_of_set : (os : List Obj) (i : ℕ) (o : Obj) → i < length os → map_of (slice_set os i o) ≡ insert (map_of os) i o

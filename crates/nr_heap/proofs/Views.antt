@@ -1,5 +1,5 @@
 -- An arena and the heap that it is seen as.
-use Rattle.std.proofs.Common.{refl, arith, ◌++◌, ◌^◌, [], ◌∷◌, ap₂, take, drop, None, ◌≡◌, ℕ, ◌+◌, ◌<◌, ◌≤◌, List, length, sym, ap, subst, ◌∙◌, Some}
+use Rattle.std.proofs.Common.{refl, arith, ◌++◌, ◌^◌, [], ◌∷◌, ap₂, take, drop, None, ◌≡◌, ℕ, zero, suc, ◌+◌, ◌<◌, ◌≤◌, List, length, sym, ap, subst, ◌∙◌, Some}
 use Rattle.std.specs.Prelude.{slice_get, slice_index_or, IsSomeAnd}
 use Rattle.std.specs.List.{zip}
 use Rattle.std.specs.FinMap.{get, insert}
@@ -11,11 +11,11 @@ use Rattle.nr_heap.specs.declared.form.Form.{Form}
 use Rattle.nr_heap.specs.declared.heap.Heap.TheInside.{Inside}
 use Rattle.nr_heap.specs.declared.place.Place.{Place}
 use Rattle.nr_heap.specs.Contents.{Contents}
-use Rattle.nr_heap.specs.Arenas.{map_of, obj_at, objects, slots_in, run_of, width, Laid, IsWritten}
+use Rattle.nr_heap.specs.Arenas.{cells_at, map_of, obj_at, objects, slots_in, run_of, width, Laid, IsWritten}
 use Rattle.nr_heap.specs.Views.{contents_of, IsArena}
-use Rattle.nr_heap.proofs.Arenas.{laid_more, objects_more, places_few, words_few, cells_map_of, count, told, name_within, place_read, run_within, written}
+use Rattle.nr_heap.proofs.Arenas.{held, laid_more, objects_more, places_few, words_few, cells_map_of, count, told, name_within, place_read, run_within, written}
 use Rattle.nr_heap.proofs.Maps.{map_of_push, map_of_fresh}
-use Rattle.nr_heap.proofs.Slots.{zip_append, zip_length}
+use Rattle.nr_heap.proofs.Slots.{none_some, some_eq, zip_append, zip_length}
 
 abbrev pub words_of : Inside → List (Form × ℕ)
 words_of a = zip a.forms.items a.words.items
@@ -35,10 +35,10 @@ last_obj zs ys p es n =
     (ap (λ s. take (width p.kind p.len) (drop s (zs ++ ys))) es ∙ ap (take (width p.kind p.len)) (drop_at zs ys (length zs) refl) ∙ take_all (width p.kind p.len) ys (omega (arith, n)))
 
 module _ (a : Inside) (h : Contents) (view : contents_of a ≡ h) (sound : IsArena a) where
-  objects_are : map_of (objects a.places.items (words_of a)) ≡ h.objects
+  pub objects_are : map_of (objects a.places.items (words_of a)) ≡ h.objects
   objects_are = ap (λ h. h.objects) view
 
-  same_count : length (words_of a) ≡ length a.words.items
+  pub same_count : length (words_of a) ≡ length a.words.items
   same_count = zip_length a.forms.items a.words.items sound.formed
 
   pub laid_words : Laid 0 a.places.items (length (words_of a))
@@ -89,3 +89,15 @@ module _ (a : Inside) (h : Contents) (view : contents_of a ≡ h) (sound : IsAre
 
   pub fresh : get h.objects (length a.places.items) ≡ None
   fresh = ap₂ get (sym objects_are) (sym (length-map a.places.items (obj_at (words_of a)))) ∙ map_of_fresh (objects a.places.items (words_of a))
+
+  -- an object has few slots
+  pub few_slots : (n m : ℕ) → IsSomeAnd (get h.objects n) (λ o. m ≤ length o.slots) → m < 2 ^ 32
+  few_slots n m x =
+      let q = held a.places.items (words_of a) h.objects n objects_are (λ o. m ≤ length o.slots) x in
+      let w = run_within a.places.items 0 (length a.words.items) n q.0 sound.laid q.1 in
+      omega (arith, q.2, count (words_of a) q.0 (subst (λ n. q.0.start + width q.0.kind q.0.len ≤ n) (sym same_count) w.1), small a.places.items n q.0 q.1, sound.counted, sound.few)
+    where
+      small : (ps : List Place) (n : ℕ) (p : Place) → slice_get ps n ≡ Some p → p.len ≤ cells_at ps
+      small [] n p e = absurd (none_some e)
+      small (q ∷ ps) zero p e = omega (arith, ap (λ p. p.len) (some_eq e))
+      small (q ∷ ps) (suc n) p e = omega (arith, small ps n p e)

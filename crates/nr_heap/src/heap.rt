@@ -6,12 +6,15 @@ ghost use Rattle.nr_linked.specs.Kinds.{is_array};
 ghost use Rattle.nr_model.specs.Heaps.{cells};
 ghost use Rattle.nr_model.specs.Outcomes.{max_cells};
 ghost use Rattle.nr_model.specs.Scripts.{with_slot};
-ghost use Rattle.nr_heap.specs.Forms.{Keeps};
+ghost use Rattle.nr_heap.specs.Contents.{Keeps};
 
 mod make;
+mod mark;
+mod run;
 
 use super::form::Form;
 use super::place::Place;
+pub use mark::Mark;
 use nr_linked::Kind;
 use nr_model::{Ref, Value};
 use std::alloc::{AllocError, Global};

@@ -7,4 +7,4 @@ mod heap;
 mod place;
 
 pub use fault::HeapFault;
-pub use heap::Heap;
+pub use heap::{Heap, Mark};
