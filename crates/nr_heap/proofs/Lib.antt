@@ -6,3 +6,4 @@ pub mod Views
 pub mod Makes
 pub mod Cuts
 pub mod Runs
+pub mod Typed

@@ -4,7 +4,9 @@
 mod fault;
 mod form;
 mod heap;
+mod law;
 mod place;
 
 pub use fault::HeapFault;
 pub use heap::{Heap, Mark};
+pub use law::heaps_stay_typed;
