@@ -8,6 +8,7 @@ use Rattle.std.specs.FinMap.{get, insert, from_entries, get-from_entries, find, 
 use Rattle.std.specs.Ordering.{nat_cmp}
 use Rattle.std.proofs.lemmas.Cmp.{nat_cmp_total}
 use Rattle.nr_model.specs.declared.value.Value.{Value}
+use Rattle.nr_linked.specs.declared.program.kind.Kind.{Kind}
 use Rattle.nr_model.specs.Heaps.{Obj, Heap, cells, cells_of, total_cells}
 use Rattle.nr_model.specs.Scripts.{with_slot}
 use Rattle.nr_model.proofs.Cells.{cells_new}
@@ -40,7 +41,7 @@ flat_length : (f : Form) (ws : List (Form × ℕ)) → length (flat_map (λ w. v
 flat_length f [] = omega arith
 flat_length f (w ∷ ws) = omega (arith, length-append (values_in f w.1) (flat_map (λ w. values_in f w.1) ws), word_count f w.1, flat_length f ws)
 
-words_hold : (f : Form) (n : ℕ) → n ≤ words_for f n * per_word f
+pub words_hold : (f : Form) (n : ℕ) → n ≤ words_for f n * per_word f
 words_hold forms.Bool n = omega arith
 words_hold forms.Byte n = omega arith
 words_hold forms.Char n = omega arith
@@ -89,6 +90,38 @@ objects_more (p ∷ ps) ws vs k l =
     let r = run_within (p ∷ ps) k (length ws) 0 p l refl in
     ap₂ (λ x y. x ∷ y) (ap (λ us. record { kind = p.kind; slots = slots_in p.kind p.len us }) (ap (take (width p.kind p.len)) (drop-append-le p.start ws vs (omega (arith, r.1))) ∙ take-append-le (width p.kind p.len) (drop p.start ws) vs (omega (arith, r.1, length-drop p.start ws))))
     (objects_more ps ws vs (k + width p.kind p.len) l.1)
+
+-- one more object behind the others
+pub laid_more : (ps : List Place) (k end : ℕ) (p : Place) → Laid k ps end → p.start ≡ end → Laid k (ps ++ p ∷ []) (end + width p.kind p.len)
+laid_more [] k end p l e = (omega (arith, l, e), omega (arith, l))
+laid_more (q ∷ ps) k end p l e = (l.0, laid_more ps (k + width q.kind q.len) end p l.1 e)
+
+-- ---- there are few
+
+width_by_le : (o : Option Form) (n : ℕ) → width_by o n ≤ n
+width_by_le None n = omega arith
+width_by_le (Some forms.Bool) n = omega arith
+width_by_le (Some forms.Byte) n = omega arith
+width_by_le (Some forms.Char) n = omega arith
+width_by_le (Some forms.Short) n = omega arith
+width_by_le (Some forms.Int) n = omega arith
+width_by_le (Some forms.Long) n = omega arith
+width_by_le (Some forms.Reference) n = omega arith
+
+pub width_le : (k : Kind) (n : ℕ) → width k n ≤ n
+width_le k n = width_by_le (elements_form k) n
+
+pub places_few : (ps : List Place) → length ps ≤ cells_at ps
+places_few [] = omega arith
+places_few (p ∷ ps) = omega (arith, places_few ps)
+
+pub words_few : (ps : List Place) (k end : ℕ) → Laid k ps end → end ≤ k + cells_at ps
+words_few [] k end l = omega (arith, l)
+words_few (p ∷ ps) k end l = omega (arith, words_few ps (k + width p.kind p.len) end l.1, width_le p.kind p.len)
+
+pub cells_at_more : (ps : List Place) (p : Place) → cells_at (ps ++ p ∷ []) ≡ cells_at ps + (p.len + 1)
+cells_at_more [] p = omega arith
+cells_at_more (q ∷ ps) p = omega (arith, cells_at_more ps p)
 
 -- ---- objects by their places
 

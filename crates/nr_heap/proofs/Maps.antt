@@ -19,12 +19,12 @@ find_numbered (o ∷ os) k (suc i) =
 pub get-map_of : (os : List Obj) (i : ℕ) → get (map_of os) i ≡ slice_get os i
 get-map_of os i = rw map_of_is (get-from_entries nat_cmp_total (numbered 0 os) i ∙ subst (λ n. find nat_cmp n (numbered 0 os) ≡ slice_get os i) (omega arith) (find_numbered os 0 i))
 
-slice_get-set : (os : List Obj) (i : ℕ) (o : Obj) → i < length os → slice_get (slice_set os i o) i ≡ Some o
+pub slice_get-set : {X : Type 0} (os : List X) (i : ℕ) (o : X) → i < length os → slice_get (slice_set os i o) i ≡ Some o
 slice_get-set [] i o l = absurd (omega arith)
 slice_get-set (p ∷ os) zero o l = refl
 slice_get-set (p ∷ os) (suc i) o l = slice_get-set os i o (omega arith)
 
-slice_get-set_other : (os : List Obj) (i j : ℕ) (o : Obj) → j ≢ i → slice_get (slice_set os i o) j ≡ slice_get os j
+pub slice_get-set_other : {X : Type 0} (os : List X) (i j : ℕ) (o : X) → j ≢ i → slice_get (slice_set os i o) j ≡ slice_get os j
 slice_get-set_other [] i j o n = refl
 slice_get-set_other (p ∷ os) zero zero o n = absurd (n refl)
 slice_get-set_other (p ∷ os) zero (suc j) o n = refl
@@ -41,7 +41,7 @@ slice_get-push_other [] (suc j) o n = refl
 slice_get-push_other (p ∷ os) zero o n = refl
 slice_get-push_other (p ∷ os) (suc j) o n = slice_get-push_other os j o (λ e. n (ap suc e))
 
-same_heap : (h k : Heap) → ((q : ℕ) → get h q ≡ get k q) → h ≡ k
+pub same_heap : (h k : Heap) → ((q : ℕ) → get h q ≡ get k q) → h ≡ k
 same_heap h k e = same_map nat_cmp_total nat_cmp-IsAntisymmetric h k e
 
 pub map_of_set : (os : List Obj) (i : ℕ) (o : Obj) → i < length os → map_of (slice_set os i o) ≡ insert (map_of os) i o

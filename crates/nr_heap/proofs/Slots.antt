@@ -1,17 +1,23 @@
 -- One slot of an object or an array is read or written.
-use Rattle.std.proofs.Common.{◌≡◌, ℕ, zero, suc, ◌+◌, ◌-◌, ◌*◌, ◌/◌, ◌%◌, ◌<◌, ◌≤◌, List, [], ◌∷◌, ◌++◌, length, refl, sym, ap, ap₂, subst, ◌∙◌, arith, take, drop, Option, Some, None, get_or}
-use Rattle.std.specs.Prelude.{slice_get, slice_set, map}
+use Rattle.std.proofs.Common.{◌≡◌, ℕ, zero, suc, ◌+◌, ◌-◌, ◌*◌, ◌/◌, ◌%◌, ◌<◌, ◌≤◌, List, [], ◌∷◌, ◌++◌, length, refl, sym, ap, ap₂, subst, ◌∙◌, arith, take, drop, Option, Some, None, get_or, cond}
+use Rattle.std.specs.Prelude.{Bool, true, false, slice_get, slice_set, map, is_some, ◌||◌, IfSome, MatchBool}
 use Rattle.std.specs.List.{flat_map, zip}
 use Rattle.std.specs.Option.{option_map}
 use Rattle.std.proofs.lemmas.List.{map-set, set-append_left, set-append_right, drop-set-add}
 use Rattle.std.proofs.lemmas.Option.{slice_get-get_or, slice_get-map}
 use Rattle.std.proofs.Math.Seq.{take-set-lt}
+use Rattle.nr_linked.specs.declared.program.kind.Base.{Base}
+use Rattle.nr_linked.specs.declared.program.kind.Base.TheVariants as bases
+use Rattle.nr_linked.specs.declared.program.kind.Kind.{Kind}
+use Rattle.nr_linked.specs.Kinds.{class_in, element_of, is_array}
 use Rattle.nr_model.specs.declared.value.Value.{Value}
 use Rattle.nr_model.specs.declared.value.Value.TheVariants as values
+use Rattle.nr_model.specs.Scripts.{OnReference}
 use Rattle.nr_heap.specs.declared.form.Form.{Form}
 use Rattle.nr_heap.specs.declared.form.Form.TheVariants as forms
 use Rattle.nr_heap.specs.declared.place.Place.{Place}
-use Rattle.nr_heap.specs.Forms.{bits_of, elements_form, form_of_value, per_word, value_in, values_in, words_for, Holds, IsSized}
+use Rattle.nr_heap.specs.Contents.{IsOfBase, IsOfKind, Keeps}
+use Rattle.nr_heap.specs.Forms.{bits_of, elements_form, form_of, form_of_base, form_of_value, per_word, value_in, values_in, words_for, Holds, IsSized}
 use Rattle.nr_heap.specs.Arenas.{run_of, slots_by, slots_in, width, width_by, IsWritten}
 use Rattle.nr_heap.proofs.Lanes.{kept, value_low}
 
@@ -75,6 +81,12 @@ module _ {X Y : Type 0} where
   zip_length [] (y ∷ ys) e = absurd (omega arith)
   zip_length (x ∷ xs) [] e = absurd (omega arith)
   zip_length (x ∷ xs) (y ∷ ys) e = ap suc (zip_length xs ys (omega arith))
+
+  pub zip_append : (xs zs : List X) (ys us : List Y) → length xs ≡ length ys → zip (xs ++ zs) (ys ++ us) ≡ zip xs ys ++ zip zs us
+  zip_append [] zs [] us e = refl
+  zip_append [] zs (y ∷ ys) us e = absurd (omega arith)
+  zip_append (x ∷ xs) zs [] us e = absurd (omega arith)
+  zip_append (x ∷ xs) zs (y ∷ ys) us e = ap (λ ps. (x, y) ∷ ps) (zip_append xs zs ys us (omega arith))
 
   pub zip_get : (xs : List X) (ys : List Y) (i : ℕ) (x : X) (y : Y) → slice_get xs i ≡ Some x → slice_get ys i ≡ Some y → slice_get (zip xs ys) i ≡ Some (x, y)
   zip_get [] ys i x y e f = absurd (none_some e)
@@ -217,3 +229,22 @@ module _ (p : Place) (fs : List Form) (ws : List ℕ) (i : ℕ) (l : i < p.len) 
               ∙ ap (λ v. slice_set (map (λ w. value_in w.0 w.1) (run_of p (zip fs ws))) i v) e
               ∙ ap (λ o. slice_set (slots_by o p.len (run_of p (zip fs ws))) i v) (sym is);
         }
+
+-- ---- what slots can hold
+
+holds_by : (d : Bool) (base : Base) (v : Value) → MatchBool (d || is_some (class_in base)) (OnReference v (λ a. Unit {0})) (IsOfBase base v) → Holds (cond d forms.Reference (form_of_base base)) v
+holds_by true base v h = h
+holds_by false bases.Bool v h = h
+holds_by false bases.Byte v h = h
+holds_by false bases.Char v h = h
+holds_by false bases.Short v h = h
+holds_by false bases.Int v h = h
+holds_by false bases.Long v h = h
+holds_by false (bases.Object c) v h = h
+
+pub holds : (k : Kind) (v : Value) → Keeps k v → IfSome (elements_form k) (λ f. Holds f v)
+holds k v h = by_element (element_of k) h
+  where
+    by_element : (o : Option Kind) → IfSome o (λ e. IsOfKind e v) → IfSome (option_map form_of o) (λ f. Holds f v)
+    by_element None h = tt
+    by_element (Some e) h = holds_by (is_array e) e.base v h

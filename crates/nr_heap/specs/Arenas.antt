@@ -1,13 +1,15 @@
 -- Objects and arrays in one arena of words. (The project's own layout.)
-use Rattle.std.specs.Prelude.{◌≡◌, ℕ, suc, ◌+◌, ◌<◌, List, [], ◌∷◌, map, take, drop, Option, Some, None, slice_set, refl}
-use Rattle.std.specs.List.{flat_map}
+use Rattle.std.specs.Prelude.{◌≡◌, ℕ, zero, suc, ◌+◌, ◌-◌, ◌<◌, List, [], ◌∷◌, ◌++◌, map, take, drop, length, replicate, Option, Some, None, slice_set, refl}
+use Rattle.std.specs.List.{flat_map, zip}
 use Rattle.std.specs.FinMap.{from_entries}
 use Rattle.nr_linked.specs.declared.program.kind.Kind.{Kind}
+use Rattle.nr_linked.specs.declared.program.tables.SlotInfo.{SlotInfo}
 use Rattle.nr_model.specs.declared.value.Value.{Value}
 use Rattle.nr_model.specs.Heaps.{Obj, Heap}
 use Rattle.nr_heap.specs.declared.form.Form.{Form}
+use Rattle.nr_heap.specs.declared.form.Form.TheVariants as forms
 use Rattle.nr_heap.specs.declared.place.Place.{Place}
-use Rattle.nr_heap.specs.Forms.{elements_form, value_in, values_in, words_for}
+use Rattle.nr_heap.specs.Forms.{elements_form, form_of, value_in, values_in, words_for}
 
 -- ---- objects by their numbers
 
@@ -69,3 +71,11 @@ pub record IsWritten (p : Place) (i : ℕ) (v : Value) (old new : List (Form × 
   pub within : at < width p.kind p.len
   pub written : new ≡ slice_set old (p.start + at) word
   pub slots : slots_in p.kind p.len (run_of p new) ≡ slice_set (slots_in p.kind p.len (run_of p old)) i v
+
+-- the forms of a new object's words: those of the slots, and some others where it has more words
+abbrev pub new_forms : Kind → ℕ → List SlotInfo → List Form
+new_forms k n ss = map (λ s. form_of s.kind) ss ++ replicate (width k n - length ss) forms.Int
+
+-- what n slots of a new object hold
+abbrev pub new_slots : Kind → ℕ → List SlotInfo → List Value
+new_slots k n ss = slots_in k n (zip (new_forms k n ss) (replicate (width k n) 0))

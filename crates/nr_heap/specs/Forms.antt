@@ -1,5 +1,5 @@
 -- How slots stand in words of 64 bits. (The project's own layout.)
-use Rattle.std.specs.Prelude.{◌≡◌, ℕ, zero, suc, ◌+◌, ◌-◌, ◌^◌, ◌/◌, ◌%◌, ◌<◌, ℤ, pos, List, [], ◌∷◌, FitsSigned, Option, IfSome, if◌then◌else◌}
+use Rattle.std.specs.Prelude.{◌≡◌, ℕ, zero, suc, ◌+◌, ◌-◌, ◌^◌, ◌/◌, ◌%◌, ◌<◌, pos, List, [], ◌∷◌, FitsSigned, Option, if◌then◌else◌}
 use Rattle.std.specs.Int.{w8, w16, w32, w64, cast_signed, cast_unsigned}
 use Rattle.std.specs.Option.{option_map}
 use Rattle.nr_linked.specs.declared.program.kind.Base.{Base}
@@ -8,6 +8,7 @@ use Rattle.nr_linked.specs.declared.program.kind.Kind.{Kind}
 use Rattle.nr_linked.specs.Kinds.{element_of, is_array}
 use Rattle.nr_model.specs.declared.value.Value.{Value}
 use Rattle.nr_model.specs.declared.value.Value.TheVariants as values
+use Rattle.nr_model.specs.Belonging.{InRange}
 use Rattle.nr_model.specs.Scripts.{OnInt, OnLong, OnReference}
 use Rattle.nr_heap.specs.declared.form.Form.{Form}
 use Rattle.nr_heap.specs.declared.form.Form.TheVariants as forms
@@ -95,14 +96,6 @@ words_for f n = (n + (per_word f - 1)) / per_word f
 
 -- ---- what a slot can hold
 
--- the range of a primitive type (2.3.1, 2.3.4)
-abbrev pub InRange : Base → ℤ → Type 0
-InRange bases.Bool n = (b : ℕ) × (n ≡ pos b) × (b < 2)
-InRange bases.Byte n = FitsSigned w8 n
-InRange bases.Char n = (c : ℕ) × (n ≡ pos c) × (c < 2 ^ 16)
-InRange bases.Short n = FitsSigned w16 n
-InRange base n = Unit {0}
-
 -- a slot of the form can hold the value
 abbrev pub Holds : Form → Value → Type 0
 Holds forms.Bool v = OnInt v (InRange bases.Bool)
@@ -119,8 +112,3 @@ IsSized (values.Int n) = FitsSigned w32 n
 IsSized (values.Long n) = FitsSigned w64 n
 IsSized values.Null = Unit {0}
 IsSized (values.Ref a) = a < 2 ^ 32
-
--- a slot of an object or an array of the kind can hold the value: one of an array holds values of its elements' type, and
--- one of an object holds any
-abbrev pub Keeps : Kind → Value → Type 0
-Keeps k v = IfSome (elements_form k) (λ f. Holds f v)

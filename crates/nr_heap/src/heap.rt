@@ -1,18 +1,23 @@
 //! Objects and arrays by their names.
 
-ghost use Rattle.std.specs.Prelude.{◌≡◌, ◌<◌, ◌≤◌, IsSomeAnd, Some, None, length, slice_get, if◌then◌else◌};
+ghost use Rattle.std.specs.Prelude.{◌≡◌, ◌<◌, ◌≤◌, max, IsOk, OnOk, OnErr, IsSomeAnd, Some, None, length, slice_get, if◌then◌else◌};
 ghost use Rattle.std.specs.FinMap.{empty, get};
 ghost use Rattle.nr_linked.specs.Kinds.{is_array};
 ghost use Rattle.nr_model.specs.Heaps.{cells};
 ghost use Rattle.nr_model.specs.Outcomes.{max_cells};
 ghost use Rattle.nr_model.specs.Scripts.{with_slot};
-ghost use Rattle.nr_heap.specs.Forms.{Keeps};
+ghost use Rattle.nr_heap.specs.Contents.{Keeps};
+
+mod make;
+mod mark;
+mod run;
 
 use super::form::Form;
 use super::place::Place;
+pub use mark::Mark;
 use nr_linked::Kind;
 use nr_model::{Ref, Value};
-use std::alloc::Global;
+use std::alloc::{AllocError, Global};
 use std::marker::Model;
 
 /// Objects and arrays by their names, with room for some more. Contracts see `Contents` of
@@ -68,6 +73,21 @@ impl Heap {
         ensures { result ≡ self.now.spare }
     {
         self.spare
+    }
+
+    /// Makes room for so many cells. The error comes only for want of memory.
+    pub fn reserve(&mut self, cells: u32) -> Result<(), AllocError>
+        ensures ok { OnOk result (self.new ≡ record self.old { spare = max self.old.spare cells }) }
+        ensures enough { cells ≤ self.old.spare → IsOk result }
+        ensures err { OnErr result (self.new ≡ self.old) }
+    {
+        if self.spare < cells {
+            self.places.reserve(cells as usize)?;
+            self.words.reserve(cells as usize)?;
+            self.forms.reserve(cells as usize)?;
+            self.spare = cells;
+        }
+        Ok(())
     }
 
     /// The class of an object or an array.

@@ -3,7 +3,8 @@ use Rattle.std.specs.List.{zip}
 use Rattle.std.specs.Vec.{with_items}
 use Rattle.std.proofs.lemmas.List.{with_items_is}
 use Rattle.nr_heap.specs.Arenas.{IsWritten}
-use Rattle.nr_heap.specs.Forms.{Keeps}
+use Rattle.nr_heap.specs.Contents.{Keeps}
+use Rattle.nr_heap.proofs.Slots.{holds}
 use Rattle.nr_heap.proofs.Views.{contents, place_of, tell, wrote, name_of}
 use Rattle.nr_heap.proofs.heap.Heap.set_slot.Goals as goal
 
@@ -23,7 +24,7 @@ store-requires-clause-within c =
 pub store-requires-clause-holds : goal.store-requires-clause-holds
 store-requires-clause-holds c =
     let r = place_of c.self.inside c.args.self.now c.self.view_is c.self.invariant (λ o. Keeps o.kind c.args.value) c.args.r c.index-place.result.now c.requires.keeps c.index-place.ensures in
-    r.1
+    holds c.index-place.result.now.kind c.args.value r.1
 
 pub returns : goal.returns
 returns c =
