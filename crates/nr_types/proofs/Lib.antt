@@ -1,0 +1,3 @@
+pub mod SizeLaws
+pub mod Fitting
+pub mod Padding
