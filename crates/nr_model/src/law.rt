@@ -5,6 +5,7 @@ mod call;
 mod closed;
 mod example;
 mod follow;
+mod found;
 mod local;
 mod outcome;
 mod over;
@@ -22,6 +23,7 @@ pub use call::{lone_arguments_start_alike, paired_calls_go_alike, parts_are_pair
 pub use closed::heaps_stay_closed;
 pub use example::premises_can_be_met;
 pub use follow::{limited_runs_are_runs, restored_calls_keep_pairs, restored_runs_follow};
+pub use found::remote_methods_are_found;
 pub use local::local_runs_without_copies;
 pub use outcome::{
     ended_outcomes_are_runs, outcomes_keep_limits, outcomes_keep_pairs, smaller_heaps_do_as_well,

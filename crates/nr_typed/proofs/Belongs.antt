@@ -207,7 +207,7 @@ module _ (P : ProgramTables) (facts : TypingFacts P) where
     pub put_over : (n i : ℕ) (u : VType) (t : Ty) → ((v : Value) → Belongs P h t v → Belongs P h (ty_of Anything m u) v) → (L : List VType) (vs : List Value)
         → Belong P h (slice_set (local_tys m n L) i t) vs → Belong P h (local_tys m n (put_word i u L)) vs
     put_over zero i u t up L vs q = q
-    put_over (suc n) zero u t up [] vs (one_place a as_) = one_place tt as_
+    put_over (suc n) zero u t up [] vs (one_place a as_) = one_place (up _ a) as_
     put_over (suc n) (suc i) u t up [] vs (one_place a as_) = one_place tt (put_over n i u t up [] _ as_)
     put_over (suc n) zero u t up (x ∷ xs) vs (one_place a as_) = one_place (up _ a) (after_ok n x xs _ as_)
     put_over (suc n) (suc i) u t up (x ∷ xs) vs (one_place a as_) = one_place (before_ok i x _ a) (put_over n i u t up xs _ as_)
@@ -215,14 +215,16 @@ module _ (P : ProgramTables) (facts : TypingFacts P) where
     -- a place that becomes Top keeps its value
     top_ok : (n i : ℕ) (L : List VType) (vs : List Value) → Belong P h (local_tys m n L) vs → Belong P h (local_tys m n (put_word i types.Top L)) vs
     top_ok zero i L vs q = q
-    top_ok (suc n) i [] vs q = q
+    top_ok (suc n) zero [] vs (one_place a as_) = one_place tt as_
+    top_ok (suc n) (suc i) [] vs (one_place a as_) = one_place tt (top_ok n i [] _ as_)
     top_ok (suc n) zero (x ∷ xs) vs (one_place a as_) = one_place tt (after_ok n x xs _ as_)
     top_ok (suc n) (suc i) (x ∷ xs) vs (one_place a as_) = one_place (before_ok i x _ a) (top_ok n i xs _ as_)
 
     top_after : (n i : ℕ) (t : Ty) (L : List VType) (vs : List Value) → Belong P h (slice_set (local_tys m n L) i t) vs
         → Belong P h (slice_set (local_tys m n (put_word (suc i) types.Top L)) i t) vs
     top_after zero i t L vs q = q
-    top_after (suc n) i t [] vs q = q
+    top_after (suc n) zero t [] vs (one_place a as_) = one_place a (top_ok n zero [] _ as_)
+    top_after (suc n) (suc i) t [] vs (one_place a as_) = one_place tt (top_after n i t [] _ as_)
     top_after (suc n) zero t (x ∷ xs) vs (one_place a as_) = one_place a (top_ok n zero xs _ as_)
     top_after (suc n) (suc i) t (x ∷ xs) vs (one_place a as_) = one_place (before_ok (suc i) x _ a) (top_after n i t xs _ as_)
 
