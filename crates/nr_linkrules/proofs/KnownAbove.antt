@@ -227,7 +227,7 @@ module _ (classes : List Loaded) (none : link_fault classes ≡ None) (all : All
   pub ends : (c : ℕ) → c < length P.classes → IsTrue (list_any (λ d. d == built_in P Object) (superclasses P c))
   ends c lt = meets P has_steps apart (built_in P Object) super_there (length P.classes) c lt (rank_short P has_steps apart c lt)
 
-  above_in : (c d : ℕ) → c < length P.classes → Above P c d → d < length P.classes
+  pub above_in : (c d : ℕ) → c < length P.classes → Above P c d → d < length P.classes
   above_in c d lt itself = lt
   above_in c d lt (further {s = s} step rest) = above_in s d (has_steps c s (direct_step (class_at P c) s step)) rest
 
