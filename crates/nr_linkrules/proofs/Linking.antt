@@ -26,6 +26,7 @@ use Rattle.nr_links.specs.Entries.{IsClassAs, IsMethodAs, is_rising, method_coun
 use Rattle.nr_links.specs.Links.{IsDecoded, Links}
 use Rattle.nr_links.specs.Rules.{KeepsRules, SaysKind, has_interface_members, is_final}
 use Rattle.nr_links.proofs.Listed.{is_listed}
+use Rattle.nr_links.proofs.OneMethod.{one_program}
 use Rattle.nr_links.proofs.Places.{found, get_below, is_some_and}
 use Rattle.nr_links.proofs.Reaching.{direct_step}
 use Rattle.nr_linkrules.specs.declared.fault.LinkFault.{LinkFault}
@@ -48,6 +49,7 @@ use Rattle.nr_linkrules.proofs.KnownSlots as slots
 use Rattle.nr_linkrules.proofs.MemberParts.{MembersKept, members_kept}
 use Rattle.nr_linkrules.proofs.Naming.{kind_says}
 use Rattle.nr_linkrules.proofs.NoFault.{each_of, is_false, listed_at, passes}
+use Rattle.nr_linkrules.proofs.PassedCode.{no_fault}
 use Rattle.nr_linkrules.proofs.Program as program
 use Rattle.nr_linkrules.proofs.Ranks.{no_cycle}
 use Rattle.nr_linkrules.proofs.Reached.{reaches_above}
@@ -175,3 +177,12 @@ module _ (classes : List Loaded) (none : link_fault classes ≡ None) (all : All
     entries = λ c l e at is. subst (IsClassAs P classes c l) (same_Some (program.entry_of classes c l) e (sym (above.is_entry classes none all c l at) ∙ is)) (class_as c l at);
     rules = λ c l e at is. subst (λ e. KeepsRules P c e l.«class») (same_Some (program.entry_of classes c l) e (sym (above.is_entry classes none all c l at) ∙ is)) (keeps_rules c l at);
   }
+
+all_decoded : (classes : List Loaded) → All IsReadable classes → All IsDecoded classes
+all_decoded classes all k d lt = (all k d lt).decoded
+
+-- and to no other
+pub no_other : (classes : List Loaded) (P : ProgramTables) → All IsReadable classes → Links classes P → P ≡ linked_program classes
+no_other classes P all linked =
+    let decoded = all_decoded classes all in
+    one_program classes P (linked_program classes) decoded linked (links classes (no_fault classes P linked decoded) all)
