@@ -1,8 +1,8 @@
 -- Classes without a fault link to the program that they make.
-use Rattle.std.proofs.Common.{◌≡◌, ℕ, zero, suc, ◌+◌, ◌<◌, Bool, true, false, List, [], ◌∷◌, length, take, refl, sym, ap, subst, ◌∙◌, arith, ◌&&◌, ◌||◌, not, inl, inr}
+use Rattle.std.proofs.Common.{◌≡◌, ℕ, zero, suc, ◌+◌, Bool, true, false, List, [], ◌∷◌, length, take, refl, sym, ap, subst, ◌∙◌, arith, ◌||◌, not, inl, inr}
 use Rattle.std.specs.Prelude.{All, Option, Some, None, IsTrue, slice_get, ◌==◌}
-use Rattle.std.specs.List.{filter, list_all, list_any, range_with_len}
-use Rattle.std.specs.Option.{option_map, option_map_or}
+use Rattle.std.specs.List.{list_any, range_with_len}
+use Rattle.std.specs.Option.{option_map_or}
 use Rattle.std.proofs.lemmas.Bool.{and_from, both_ways, eqb-true, false_from_ne_true, or_cases, or_left, or_right}
 use Rattle.std.proofs.lemmas.Option.{get_or_from_slice_get, same_Some, slice_get_within}
 use Rattle.nr_base.specs.Descs.{desc}
@@ -18,7 +18,6 @@ use Rattle.nr_linked.specs.declared.program.tables.MethodInfo.{MethodInfo}
 use Rattle.nr_linked.specs.declared.program.tables.ProgramTables.{ProgramTables}
 use Rattle.nr_linked.specs.declared.program.tables.SlotInfo.{SlotInfo}
 use Rattle.nr_linked.specs.KindTexts.{kind_desc}
-use Rattle.nr_linked.specs.Linked.{declared}
 use Rattle.nr_linked.specs.Programs.{class_at, is_interface, method_at, methods_of}
 use Rattle.nr_linked.specs.Selection.{is_called, is_selectable}
 use Rattle.nr_linked.specs.Subtypes.{Above, IsDirectlyAbove}
@@ -29,11 +28,10 @@ use Rattle.nr_links.proofs.Listed.{is_listed}
 use Rattle.nr_links.proofs.OneMethod.{one_program}
 use Rattle.nr_links.proofs.Places.{found, get_below, is_some_and}
 use Rattle.nr_links.proofs.Reaching.{direct_step}
-use Rattle.nr_linkrules.specs.declared.fault.LinkFault.{LinkFault}
 use Rattle.nr_linkrules.specs.declared.fault.LinkFault.TheVariants as faults
 use Rattle.nr_linkrules.specs.ClassRules.{has_final, has_final_over, hides_final, is_final_as, members_fault, method_name, override_fault}
 use Rattle.nr_linkrules.specs.Completion.{linked_program}
-use Rattle.nr_linkrules.specs.Faults.{first_of, unless}
+use Rattle.nr_linkrules.specs.Faults.{unless}
 use Rattle.nr_linkrules.specs.Layout.{slots_in, supers_in}
 use Rattle.nr_linkrules.specs.LinkFaults.{link_fault}
 use Rattle.nr_linkrules.specs.Outline.{outline_class}
