@@ -1,13 +1,12 @@
 -- What linking finds for the methods of the program that classes make, where they have no fault, is what their files say.
-use Rattle.std.proofs.Common.{◌≡◌, ℕ, zero, suc, ◌+◌, ◌<◌, Bool, true, false, List, [], ◌∷◌, ◌++◌, length, map, take, refl, sym, ap, subst, ◌∙◌, arith, inl, inr, ◌⊎◌}
-use Rattle.std.specs.Prelude.{All, Option, Some, None, Ok, Err, IsTrue, slice_get, ◌==◌, is_some, if◌then◌else◌}
+use Rattle.std.proofs.Common.{◌≡◌, ℕ, zero, suc, ◌+◌, Bool, true, false, List, [], ◌∷◌, ◌++◌, length, map, refl, sym, ap, subst, ◌∙◌, inl, inr, ◌⊎◌}
+use Rattle.std.specs.Prelude.{All, Option, Some, None, Ok, slice_get, ◌==◌, is_some, if◌then◌else◌}
 use Rattle.std.specs.List.{AllZip, position}
-use Rattle.std.specs.Option.{option_map, option_map_or, option_or, option_to_list}
+use Rattle.std.specs.Option.{option_map, option_map_or, option_to_list}
 use Rattle.std.specs.Str.{bytes_eq}
-use Rattle.std.proofs.lemmas.Bool.{cases_Bool, eqb-false, eqb-true}
+use Rattle.std.proofs.lemmas.Bool.{eqb-false, eqb-true}
 use Rattle.std.proofs.lemmas.Option.{get_or_from_slice_get, same_Some, slice_get_within}
 use Rattle.nr_base.specs.Descs.{method_desc}
-use Rattle.nr_base.specs.declared.desc.types.Desc.{Desc}
 use Rattle.nr_base.specs.declared.desc.types.DescBase.{DescBase}
 use Rattle.nr_base.specs.declared.desc.types.DescBase.TheVariants as desc_bases
 use Rattle.nr_prog.specs.declared.body.frame_map.FrameMap.{FrameMap}
@@ -26,26 +25,23 @@ use Rattle.nr_linked.specs.declared.program.kind.Kind.{Kind}
 use Rattle.nr_linked.specs.declared.program.tables.ClassInfo.{ClassInfo}
 use Rattle.nr_linked.specs.declared.program.tables.MethodInfo.{MethodInfo}
 use Rattle.nr_linked.specs.declared.program.tables.ProgramTables.{ProgramTables}
-use Rattle.nr_linked.specs.declared.program.tables.Resolved.{Resolved}
-use Rattle.nr_linked.specs.declared.program.types.VType.{VType}
 use Rattle.nr_linked.specs.declared.program.types.VType.TheVariants as types
 use Rattle.nr_linked.specs.Linked.{frame_maps_of, handlers_of, instrs_of}
 use Rattle.nr_linked.specs.Programs.{class_named}
-use Rattle.nr_links.specs.Entries.{IsCaught, IsFrameOf, IsMethodAs, map_type, method_count}
+use Rattle.nr_links.specs.Entries.{IsCaught, IsFrameOf, IsMethodAs, map_type}
 use Rattle.nr_links.specs.Found.{IsFound}
 use Rattle.nr_links.specs.Named.{NamesKind}
 use Rattle.nr_links.proofs.Instructions.{HasText}
 use Rattle.nr_links.proofs.Places.{some_of}
-use Rattle.nr_linkrules.specs.declared.fault.LinkFault.{LinkFault}
 use Rattle.nr_linkrules.specs.declared.fault.LinkFault.TheVariants as faults
-use Rattle.nr_linkrules.specs.ClassRules.{base_fault, desc_fault, known_fault}
+use Rattle.nr_linkrules.specs.ClassRules.{base_fault, known_fault}
 use Rattle.nr_linkrules.specs.Completion.{caught, completed, frame_of, kind_or_none, or_nothing, type_of, types_of}
 use Rattle.nr_linkrules.specs.Faults.{first_of, unless}
-use Rattle.nr_linkrules.specs.Layout.{kind_of, laid_out}
+use Rattle.nr_linkrules.specs.Layout.{laid_out}
 use Rattle.nr_linkrules.specs.LinkFaults.{link_fault}
 use Rattle.nr_linkrules.specs.Outline.{bare_method, outline_method}
 use Rattle.nr_linkrules.specs.Readable.{IsReadable}
-use Rattle.nr_linkrules.specs.SiteRules.{Finding, around_fault, fault_of, handler_fault, instr_found, kind_at, map_fault, place_in, pool_of, type_fault}
+use Rattle.nr_linkrules.specs.SiteRules.{around_fault, fault_of, handler_fault, instr_found, kind_at, map_fault, place_in, pool_of, type_fault}
 use Rattle.nr_linkrules.proofs.Alike as alike
 use Rattle.nr_linkrules.proofs.GivenAll.{given_is_found}
 use Rattle.nr_linkrules.proofs.Known as known

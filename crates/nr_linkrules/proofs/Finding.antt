@@ -1,6 +1,6 @@
 -- What linking finds for an instruction is what the rules on instructions give.
 use Rattle.std.proofs.Common.{◌≡◌, ℕ, Bool, true, false, ◌&&◌, ◌||◌, not, List, Option, Some, None, Ok, Err, refl, sym, ap, subst, ◌∙◌, inl, inr}
-use Rattle.std.specs.Prelude.{All, IsSomeAnd, IsTrue, codes, ◌==◌, if◌then◌else◌}
+use Rattle.std.specs.Prelude.{IsSomeAnd, IsTrue, codes, ◌==◌, if◌then◌else◌}
 use Rattle.std.specs.Str.{bytes_eq}
 use Rattle.std.specs.Option.{option_map_or}
 use Rattle.std.proofs.lemmas.Bool.{and_from, and_parts, eq-eqb, eqb-true, or_left, or_right, or_cases, cases_Bool, both_ways}
@@ -11,7 +11,7 @@ use Rattle.nr_prog.specs.declared.pool.PoolEntry.{PoolEntry}
 use Rattle.nr_prog.specs.declared.pool.PoolEntry.TheVariants.{FieldRef, Integer, InterfaceMethodRef, Long, MethodRef}
 use Rattle.nr_prog.specs.BodyNames.{desc_text_at}
 use Rattle.nr_prog.specs.Members.{is_static}
-use Rattle.nr_prog.specs.Pool.{IsText, entry_at}
+use Rattle.nr_prog.specs.Pool.{entry_at}
 use Rattle.nr_instrs.specs.Checks.{then_on}
 use Rattle.nr_linked.specs.declared.program.tables.ClassInfo.{ClassInfo}
 use Rattle.nr_linked.specs.declared.program.tables.MethodInfo.{MethodInfo}

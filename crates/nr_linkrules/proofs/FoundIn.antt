@@ -1,9 +1,8 @@
 -- What is found stands in the program.
-use Rattle.std.proofs.Common.{◌≡◌, ℕ, zero, suc, ◌+◌, ◌-◌, ◌<◌, ◌≤◌, Bool, true, false, cond, find, List, [], ◌∷◌, length, refl, sym, ap, subst, ◌∙◌, arith, ◌&&◌, not}
-use Rattle.std.specs.Prelude.{Option, Some, None, Ok, Err, IsTrue, codes, nat_lt, if◌then◌else◌}
-use Rattle.std.specs.List.{list_all, position, position_or_len}
+use Rattle.std.proofs.Common.{◌≡◌, ℕ, ◌<◌, ◌≤◌, Bool, true, false, cond, List, length, refl, subst, arith, ◌&&◌, not}
+use Rattle.std.specs.Prelude.{Option, Some, None, Ok, Err, IsTrue, nat_lt, if◌then◌else◌}
+use Rattle.std.specs.List.{position, position_or_len}
 use Rattle.std.specs.Option.{option_and_then, option_map_or}
-use Rattle.std.specs.Str.{bytes_eq}
 use Rattle.std.proofs.lemmas.Bool.{and_from, lt-ltb, ltb-true}
 use Rattle.std.proofs.lemmas.Option.{same_Some, slice_get_within}
 use Rattle.nr_optable.specs.declared.table.Family.{Family}
@@ -16,7 +15,6 @@ use Rattle.nr_instrs.specs.Checks.{then_on}
 use Rattle.nr_instrs.specs.NameTests.{class_desc}
 use Rattle.nr_linked.specs.declared.program.built_in.BuiltIn.TheVariants.{Object}
 use Rattle.nr_linked.specs.declared.program.kind.Kind.{Kind}
-use Rattle.nr_linked.specs.declared.program.tables.MethodInfo.{MethodInfo}
 use Rattle.nr_linked.specs.declared.program.tables.ProgramTables.{ProgramTables}
 use Rattle.nr_linked.specs.declared.program.tables.Resolved.{Resolved}
 use Rattle.nr_linked.specs.declared.program.tables.Resolved.TheVariants as resolved
@@ -31,7 +29,6 @@ use Rattle.nr_links.specs.Found.{index_in}
 use Rattle.nr_links.specs.Resolution.{class_with_members, field_class, is_slot_of, resolved_slot, slot_of_field}
 use Rattle.nr_links.proofs.Places.{passing}
 use Rattle.nr_linkrules.specs.declared.fault.LinkFault.{LinkFault}
-use Rattle.nr_linkrules.specs.declared.fault.LinkFault.TheVariants as faults
 use Rattle.nr_linkrules.specs.Layout.{kind_of}
 use Rattle.nr_linkrules.specs.SiteRules.{Finding, Place, Search, by_member, callable, can_call, class_bytes, constant_found, found_by, instr_found, kind_at, kind_named, made_found, method_found, method_in, method_of, no_field, no_method, on_entry, on_member, or_fault, slot_found, slot_in}
 use Rattle.nr_linkrules.proofs.Given.{first_then}

@@ -1,5 +1,5 @@
 -- What the rules on instructions give is what linking finds, for each instruction that a text of code spells.
-use Rattle.std.proofs.Common.{◌≡◌, ℕ, zero, suc, ◌+◌, ◌<◌, Bool, true, false, List, [], ◌∷◌, refl, sym, ap, subst, ◌∙◌, arith, ◌&&◌, ◌||◌, not}
+use Rattle.std.proofs.Common.{◌≡◌, ℕ, zero, suc, Bool, true, false, List, [], ◌∷◌, refl, sym, ap, subst, ◌∙◌, arith, ◌&&◌, ◌||◌, not}
 use Rattle.std.specs.Prelude.{All, Option, Some, None, Ok, Err, IsTrue, IsSomeAnd, Contains, if◌then◌else◌, nat_lt}
 use Rattle.std.specs.List.{list_all}
 use Rattle.std.specs.Option.{option_map_or}
@@ -14,7 +14,6 @@ use Rattle.nr_optable.specs.declared.table.Shape.TheVariants as shapes
 use Rattle.nr_optable.specs.Rows.{all_rows}
 use Rattle.nr_prog.specs.declared.body.instruction.Args.{Args}
 use Rattle.nr_prog.specs.declared.body.instruction.Args.TheVariants.{Dims, Pool}
-use Rattle.nr_prog.specs.declared.body.instruction.Args.TheVariants as args
 use Rattle.nr_prog.specs.declared.body.instruction.Instr.{Instr}
 use Rattle.nr_prog.specs.declared.pool.PoolEntry.{PoolEntry}
 use Rattle.nr_prog.specs.declared.pool.PoolEntry.TheVariants.{FieldRef, Integer, InterfaceMethodRef, Long, MethodRef}
@@ -35,10 +34,10 @@ use Rattle.nr_linked.specs.Programs.{class_at}
 use Rattle.nr_linked.specs.TypingFacts.{is_makeable, is_shaped}
 use Rattle.nr_links.specs.Found.{IsConstantFound, IsFieldFound, IsFound, IsFoundAt, IsFoundBy, IsKindFound, IsMadeFound, IsMethodFound, index_in}
 use Rattle.nr_links.specs.Named.{NamesKind}
-use Rattle.nr_links.proofs.Instructions.{HasText, counts, dims_shape, is_pool_shape, mul_row, row_listed, shaped, uses}
-use Rattle.nr_links.proofs.Places.{is_some_and, some_of}
+use Rattle.nr_links.proofs.Instructions.{HasText, counts, dims_shape, mul_row, row_listed, shaped, uses}
+use Rattle.nr_links.proofs.Places.{some_of}
 use Rattle.nr_linkrules.specs.declared.fault.LinkFault.{LinkFault}
-use Rattle.nr_linkrules.specs.SiteRules.{Finding, Place, by_member, constant_found, found_by, instr_found, kind_at, made_found, method_found, on_entry, slot_found}
+use Rattle.nr_linkrules.specs.SiteRules.{Finding, Place, by_member, constant_found, found_by, instr_found, kind_at, made_found, method_found, slot_found}
 use Rattle.nr_linkrules.proofs.Given.{call_is, first_then, slot_is}
 use Rattle.nr_linkrules.proofs.Naming.{kind_is_named}
 

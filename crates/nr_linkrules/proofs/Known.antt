@@ -1,55 +1,37 @@
 -- What is known of the program that classes make where they have no fault: the names, and what stands above each class.
-use Rattle.std.proofs.Common.{◌≡◌, ℕ, zero, suc, ◌+◌, ◌-◌, ◌<◌, ◌≤◌, Bool, true, false, cond, List, [], ◌∷◌, ◌++◌, length, map, take, refl, sym, ap, subst, ◌∙◌, arith, inl, inr, ◌&&◌, not, length-append}
-use Rattle.std.specs.Prelude.{All, Option, Some, None, IsTrue, slice_get, ◌==◌, nat_lt, is_none, is_some, if◌then◌else◌}
-use Rattle.std.specs.List.{flat_map, list_all, list_any, position, position_or_len, range_with_len}
-use Rattle.std.specs.Option.{option_and_then, option_map, option_map_or, option_or, option_to_list}
+use Rattle.std.proofs.Common.{◌≡◌, ℕ, suc, ◌+◌, ◌<◌, Bool, true, false, cond, List, [], ◌∷◌, ◌++◌, length, map, take, refl, sym, ap, subst, ◌∙◌, arith, not, length-append}
+use Rattle.std.specs.Prelude.{All, Some, None, slice_get, nat_lt}
+use Rattle.std.specs.List.{position, position_or_len}
 use Rattle.std.specs.Str.{bytes_eq}
-use Rattle.std.proofs.lemmas.Bool.{and_parts, both_ways, cases_lt, eq-eqb, eqb-true, false_from_ne_true, le-ltb, lt-ltb, ltb-true}
+use Rattle.std.proofs.lemmas.Bool.{both_ways, false_from_ne_true, ltb-true}
 use Rattle.std.proofs.lemmas.List.{length-map}
-use Rattle.std.proofs.lemmas.Option.{get_or_from_slice_get, same_Some, slice_get-map, slice_get_within}
+use Rattle.std.proofs.lemmas.Option.{get_or_from_slice_get, same_Some, slice_get_within}
 use Rattle.nr_prog.specs.declared.body.loaded.Loaded.{Loaded}
-use Rattle.nr_prog.specs.declared.parts.ClassParts.{ClassParts}
-use Rattle.nr_prog.specs.declared.pool.PoolEntry.{PoolEntry}
-use Rattle.nr_prog.specs.BodyNames.{class_text_at}
-use Rattle.nr_prog.specs.Form.{IsFormed, NamesClass}
-use Rattle.nr_linked.specs.declared.program.built_in.BuiltIn.TheVariants.{Object}
 use Rattle.nr_linked.specs.declared.program.tables.ClassInfo.{ClassInfo}
 use Rattle.nr_linked.specs.declared.program.tables.ProgramTables.{ProgramTables}
-use Rattle.nr_linked.specs.BuiltIns.{built_in, built_in_class}
+use Rattle.nr_linked.specs.BuiltIns.{built_in_class}
 use Rattle.nr_linked.specs.BuiltInTables.{built_in_info, built_in_infos, built_in_tables, built_ins}
-use Rattle.nr_linked.specs.KindTexts.{class_name}
-use Rattle.nr_linked.specs.Linked.{is_class_in, is_super_in}
-use Rattle.nr_linked.specs.Programs.{class_at, class_named, is_interface, super_of}
-use Rattle.nr_linked.specs.Subtypes.{is_above}
-use Rattle.nr_linked.specs.Linked as linking
+use Rattle.nr_linked.specs.Programs.{class_at, class_named}
 use Rattle.nr_linked.proofs.Witness as witness
 use Rattle.nr_links.specs.Entries.{method_count}
 use Rattle.nr_links.specs.Links.{IsDecoded}
-use Rattle.nr_links.specs.Rules.{is_final_class, is_reserved}
+use Rattle.nr_links.specs.Rules.{is_reserved}
 use Rattle.nr_links.proofs.BuiltInEntries.{on_all}
 use Rattle.nr_links.proofs.Described.{same_bytes}
-use Rattle.nr_links.proofs.Listed.{listed_all}
-use Rattle.nr_links.proofs.Places.{get_below, get_mapped, passes_at}
-use Rattle.nr_linkrules.specs.declared.fault.LinkFault.{LinkFault}
-use Rattle.nr_linkrules.specs.ClassRules.{above_fault, cycle_fault, has_final_above, has_kinds_above, is_above_itself, is_known, known_fault, list_fault, members_fault, named_above_fault, named_fault}
-use Rattle.nr_linkrules.specs.Faults.{first_of, unless}
+use Rattle.nr_links.proofs.Places.{get_mapped}
+use Rattle.nr_linkrules.specs.ClassRules.{above_fault, cycle_fault, list_fault, members_fault}
+use Rattle.nr_linkrules.specs.Faults.{first_of}
 use Rattle.nr_linkrules.specs.LinkFaults.{Rule, classes_fault, code_faults, first_class_fault, link_fault, on_loaded}
-use Rattle.nr_linkrules.specs.Outline.{class_number, names_of, number_in, outline, outline_class, outline_classes, own_name, own_names, some_text}
+use Rattle.nr_linkrules.specs.Outline.{names_of, number_in, outline, outline_class, outline_classes, own_name, own_names}
 use Rattle.nr_linkrules.specs.Readable.{IsReadable}
-use Rattle.nr_linkrules.specs.Reaches.{HasSteps, is_step, reaches, steps_up}
 use Rattle.nr_linkrules.specs.SiteRules.{around_fault, code_fault}
 use Rattle.nr_linkrules.proofs.Alike as alike
 use Rattle.nr_linkrules.proofs.Learnt as learnt
 use Rattle.nr_linkrules.proofs.NameLaws as names
-use Rattle.nr_linkrules.proofs.Naming.{named_class}
-use Rattle.nr_linkrules.proofs.NoFault.{any_at, both_none, each_numbered, each_of, is_false, listed_at, passes}
+use Rattle.nr_linkrules.proofs.NoFault.{both_none, each_numbered}
 use Rattle.nr_linkrules.proofs.Outlined as outlines
 use Rattle.nr_linkrules.proofs.Parts.{get_front, map_parts}
 use Rattle.nr_linkrules.proofs.Program as program
-use Rattle.nr_linkrules.proofs.Ranks.{meets, rank_short}
-use Rattle.nr_linkrules.proofs.Reached.{reached_above}
-use Rattle.nr_linkrules.proofs.Shifted as shifted
-use Rattle.nr_linkrules.proofs.Steps.{steps_in}
 
 -- ---- the first place, behind others
 

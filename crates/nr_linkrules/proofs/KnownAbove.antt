@@ -1,10 +1,10 @@
 -- What stands above the classes of the program that classes make where they have no fault.
-use Rattle.std.proofs.Common.{◌≡◌, ℕ, zero, suc, ◌+◌, ◌-◌, ◌<◌, ◌≤◌, ◌⊎◌, Bool, true, false, List, [], ◌∷◌, ◌++◌, length, map, take, refl, sym, ap, subst, ◌∙◌, arith, inl, inr, ◌&&◌, not}
+use Rattle.std.proofs.Common.{◌≡◌, ℕ, suc, ◌+◌, ◌-◌, ◌<◌, Bool, true, false, List, [], ◌∷◌, ◌++◌, length, map, refl, sym, ap, subst, ◌∙◌, arith, inl, inr, ◌&&◌}
 use Rattle.std.specs.Prelude.{All, Option, Some, None, IsTrue, slice_get, ◌==◌, is_none, is_some, ◌↔◌}
-use Rattle.std.specs.List.{filter, flat_map, list_all, list_any, range_with_len}
+use Rattle.std.specs.List.{flat_map, list_all, list_any, range_with_len}
 use Rattle.std.specs.Option.{option_and_then, option_map, option_map_or, option_to_list}
-use Rattle.std.proofs.lemmas.Bool.{and_parts, both_ways, cases_lt, eq-eqb, eqb-true, false_from_ne_true, lt-ltb, ltb-true}
-use Rattle.std.proofs.lemmas.Option.{get_or_from_slice_get, same_Some, slice_get-map, slice_get_within}
+use Rattle.std.proofs.lemmas.Bool.{and_parts, cases_lt, false_from_ne_true}
+use Rattle.std.proofs.lemmas.Option.{same_Some, slice_get_within}
 use Rattle.nr_prog.specs.declared.body.loaded.Loaded.{Loaded}
 use Rattle.nr_prog.specs.declared.pool.PoolEntry.{PoolEntry}
 use Rattle.nr_prog.specs.BodyNames.{class_text_at}
@@ -15,31 +15,28 @@ use Rattle.nr_linked.specs.declared.program.tables.ProgramTables.{ProgramTables}
 use Rattle.nr_linked.specs.BuiltIns.{built_in}
 use Rattle.nr_linked.specs.BuiltInTables.{built_in_tables}
 use Rattle.nr_linked.specs.KindTexts.{class_name}
-use Rattle.nr_linked.specs.Linked.{IsClassLinked, is_class_in, is_super_in}
+use Rattle.nr_linked.specs.Linked.{IsClassLinked, is_super_in}
 use Rattle.nr_linked.specs.Programs.{class_at, class_named, is_interface, super_of, superclasses}
 use Rattle.nr_linked.specs.Subtypes.{Above, further, is_above, itself}
-use Rattle.nr_linked.proofs.Witness as witness
 use Rattle.nr_links.specs.Entries.{method_count}
 use Rattle.nr_links.specs.Rules.{is_final_class}
-use Rattle.nr_links.proofs.Listed.{is_listed, listed_all}
 use Rattle.nr_links.proofs.OneNames.{same_functions}
-use Rattle.nr_links.proofs.Places.{get_below, passes_at}
+use Rattle.nr_links.proofs.Places.{get_below}
 use Rattle.nr_links.proofs.Reaching.{direct_step}
-use Rattle.nr_linkrules.specs.declared.fault.LinkFault.{LinkFault}
 use Rattle.nr_linkrules.specs.ClassRules.{above_fault, cycle_fault, has_final_above, has_kinds_above, is_above_itself, is_known, known_fault, named_above_fault, named_fault}
 use Rattle.nr_linkrules.specs.Faults.{first_of}
 use Rattle.nr_linkrules.specs.Layout.{supers_in}
 use Rattle.nr_linkrules.specs.LinkFaults.{link_fault}
 use Rattle.nr_linkrules.specs.Outline.{bare_class, class_number, names_of, number_in, outline_class, some_text}
 use Rattle.nr_linkrules.specs.Readable.{IsReadable}
-use Rattle.nr_linkrules.specs.Reaches.{HasSteps, is_step, reaches, steps_up}
+use Rattle.nr_linkrules.specs.Reaches.{HasSteps, reaches, steps_up}
 use Rattle.nr_linkrules.proofs.Alike as alike
 use Rattle.nr_linkrules.proofs.Known as known
 use Rattle.nr_linkrules.proofs.NameLaws as names
 use Rattle.nr_linkrules.proofs.Naming.{named_class}
 use Rattle.nr_linkrules.proofs.NoFault.{any_at, both_none, is_false, listed_at, passes}
 use Rattle.nr_linkrules.proofs.Program as program
-use Rattle.nr_linkrules.proofs.Ranks.{meets, rank, rank_short}
+use Rattle.nr_linkrules.proofs.Ranks.{meets, rank_short}
 use Rattle.nr_linkrules.proofs.Reached.{reached_above, reaches_above}
 use Rattle.nr_linkrules.proofs.Rising.{filter_listed, listed_filter, range_listed}
 use Rattle.nr_linkrules.proofs.Shifted as shifted
@@ -227,20 +224,21 @@ module _ (classes : List Loaded) (none : link_fault classes ≡ None) (all : All
   pub ends : (c : ℕ) → c < length P.classes → IsTrue (list_any (λ d. d == built_in P Object) (superclasses P c))
   ends c lt = meets P has_steps apart (built_in P Object) super_there (length P.classes) c lt (rank_short P has_steps apart c lt)
 
-  above_in : (c d : ℕ) → c < length P.classes → Above P c d → d < length P.classes
+  pub above_in : (c d : ℕ) → c < length P.classes → Above P c d → d < length P.classes
   above_in c d lt itself = lt
   above_in c d lt (further {s = s} step rest) = above_in s d (has_steps c s (direct_step (class_at P c) s step)) rest
 
   -- what is listed is what stands above
   pub supers : (k : ℕ) (l : Loaded) → slice_get classes k ≡ Some l → (d : ℕ) → IsTrue (is_above P k d) ↔ Above P k d
   unfolding supers_in
-  supers k l at d =
-      (λ p.
-      let q = subst (λ o. IsTrue (option_map_or (λ (e : ClassInfo). list_any (λ s. s == d) e.supers) o false)) (is_entry k l at) p in
-      let r = listed_filter (reaches O k) (range_with_len 0 (length O.classes)) d q in
-      (reaches_above P has_steps k d).0 (sym (alike.reached P O same k d) ∙ r.0),
-      λ a.
-      let short = above_in k d (slice_get_within P.classes k (program.entry_of classes k l) (is_entry k l at)) a in
-      let more = alike.count P O same in
-      subst (λ o. IsTrue (option_map_or (λ (e : ClassInfo). list_any (λ s. s == d) e.supers) o false)) (sym (is_entry k l at))
-      (filter_listed (reaches O k) (range_with_len 0 (length O.classes)) d (alike.reached P O same k d ∙ (reaches_above P has_steps k d).1 a) (range_listed 0 (length O.classes) d (omega arith) (omega (arith, short, more)))))
+  supers k l at d = (
+    λ p.
+        let q = subst (λ o. IsTrue (option_map_or (λ (e : ClassInfo). list_any (λ s. s == d) e.supers) o false)) (is_entry k l at) p in
+        let r = listed_filter (reaches O k) (range_with_len 0 (length O.classes)) d q in
+        (reaches_above P has_steps k d).0 (sym (alike.reached P O same k d) ∙ r.0),
+    λ a.
+        let short = above_in k d (slice_get_within P.classes k (program.entry_of classes k l) (is_entry k l at)) a in
+        let more = alike.count P O same in
+        subst (λ o. IsTrue (option_map_or (λ (e : ClassInfo). list_any (λ s. s == d) e.supers) o false)) (sym (is_entry k l at))
+        (filter_listed (reaches O k) (range_with_len 0 (length O.classes)) d (alike.reached P O same k d ∙ (reaches_above P has_steps k d).1 a) (range_listed 0 (length O.classes) d (omega arith) (omega (arith, short, more)))),
+  )

@@ -1,17 +1,16 @@
 -- Each method of the classes that were loaded is linked in the program that classes make where they have no fault.
 use Rattle.std.proofs.Common.{◌≡◌, ℕ, zero, suc, ◌+◌, ◌-◌, ◌<◌, ◌≤◌, Bool, true, false, cond, find, List, [], ◌∷◌, ◌++◌, length, map, take, refl, sym, ap, subst, ◌∙◌, arith, inl, inr, ◌&&◌, not}
 use Rattle.std.specs.Prelude.{All, Option, Some, None, Ok, Err, IsTrue, slice_get, ◌==◌, is_none, is_some, nat_lt, if◌then◌else◌}
-use Rattle.std.specs.List.{flat_map, list_all, position, range_with_len}
-use Rattle.std.specs.Option.{option_and_then, option_map, option_map_or, option_or, option_to_list}
+use Rattle.std.specs.List.{list_all, position, range_with_len}
+use Rattle.std.specs.Option.{option_and_then, option_map, option_map_or, option_to_list}
 use Rattle.std.specs.Str.{bytes_eq}
-use Rattle.std.proofs.lemmas.Bool.{and_from, and_parts, cases_Bool, false_from_ne_true, lt-ltb}
+use Rattle.std.proofs.lemmas.Bool.{and_from, and_parts, false_from_ne_true, lt-ltb}
 use Rattle.std.proofs.lemmas.List.{length-map}
-use Rattle.std.proofs.lemmas.Option.{get_or_from_slice_get, same_Some, slice_get-map, slice_get_within}
+use Rattle.std.proofs.lemmas.Option.{get_or_from_slice_get, slice_get_within}
 use Rattle.std.proofs.lemmas.Slice.Eq.{bytes_eq-Decides}
 use Rattle.nr_base.specs.Descs.{method_text}
 use Rattle.nr_base.specs.DescReading.{method_of}
 use Rattle.nr_base.specs.declared.desc.types.Desc.{Desc}
-use Rattle.nr_base.specs.declared.desc.types.MethodDesc.{MethodDesc}
 use Rattle.nr_prog.specs.declared.body.frame_map.FrameMap.{FrameMap}
 use Rattle.nr_prog.specs.declared.body.frame_map.MapType.{MapType}
 use Rattle.nr_prog.specs.declared.body.frame_map.MapType.TheVariants as map_types
@@ -37,10 +36,10 @@ use Rattle.nr_linked.specs.declared.program.types.VFrame.{VFrame}
 use Rattle.nr_linked.specs.declared.program.types.VType.{VType}
 use Rattle.nr_linked.specs.declared.program.types.VType.TheVariants as types
 use Rattle.nr_linked.specs.BuiltIns.{built_in_count}
-use Rattle.nr_linked.specs.KindTexts.{kind_desc, signature_text}
+use Rattle.nr_linked.specs.KindTexts.{kind_desc}
 use Rattle.nr_linked.specs.Kinds.{class_in}
-use Rattle.nr_linked.specs.Linked.{IsMethodLinked, declared, frame_maps_of, handlers_of, instrs_of, is_class_in, is_frame_in, is_kind_in, is_kind_in_or_none, is_loaded, is_resolved_in, is_type_in}
-use Rattle.nr_linked.specs.Programs.{class_at, class_named, method_at, methods_of}
+use Rattle.nr_linked.specs.Linked.{IsMethodLinked, declared, frame_maps_of, handlers_of, instrs_of, is_frame_in, is_kind_in, is_kind_in_or_none, is_loaded, is_resolved_in, is_type_in}
+use Rattle.nr_linked.specs.Programs.{method_at}
 use Rattle.nr_linked.specs.Selection.{is_called}
 use Rattle.nr_linked.specs.TypingFrames.{in_places}
 use Rattle.nr_links.specs.Entries.{method_count}
@@ -54,7 +53,7 @@ use Rattle.nr_linkrules.specs.Layout.{kind_of}
 use Rattle.nr_linkrules.specs.LinkFaults.{link_fault}
 use Rattle.nr_linkrules.specs.Outline.{bare_method, outline_class, outline_method, some_text}
 use Rattle.nr_linkrules.specs.Readable.{IsReadable}
-use Rattle.nr_linkrules.specs.SiteRules.{Finding, around_fault, code_fault, fault_of, handler_fault, instr_found, kind_at, map_fault, place_in, pool_of, type_fault}
+use Rattle.nr_linkrules.specs.SiteRules.{Finding, around_fault, code_fault, fault_of, instr_found, kind_at, place_in, pool_of}
 use Rattle.nr_linkrules.proofs.Alike as alike
 use Rattle.nr_linkrules.proofs.FoundIn.{found_in, kind_in}
 use Rattle.nr_linkrules.proofs.Known as known
@@ -164,9 +163,10 @@ module _ (classes : List Loaded) (none : link_fault classes ≡ None) (all : All
   kinds_there (d ∷ ds) e =
       let parts = both_none (desc_fault O d) (first_of (desc_fault O) ds) e in
       let k = kind_there d parts.0 in
-      let rest = kinds_there ds parts.1 in
-      (ap (λ o. map (kind_desc P) (option_to_list o ++ kinds_of L ds)) k.1 ∙ (λ i. k.2 i ∷ rest.0 i),
-      subst (λ o. IsTrue (list_all (is_kind_in P) (option_to_list o ++ kinds_of L ds))) (sym k.1) (and_from (is_kind_in P k.0) _ k.3 rest.1))
+      let rest = kinds_there ds parts.1 in (
+        ap (λ o. map (kind_desc P) (option_to_list o ++ kinds_of L ds)) k.1 ∙ (λ i. k.2 i ∷ rest.0 i),
+        subst (λ o. IsTrue (list_all (is_kind_in P) (option_to_list o ++ kinds_of L ds))) (sym k.1) (and_from (is_kind_in P k.0) _ k.3 rest.1),
+      )
 
   result_there : (o : Option Desc) → first_of (desc_fault O) (option_to_list o) ≡ None → (option_map (kind_desc P) (option_and_then (kind_of L) o) ≡ o) × IsTrue (is_kind_in_or_none P (option_and_then (kind_of L) o))
   unfolding first_of
@@ -305,9 +305,10 @@ module _ (classes : List Loaded) (none : link_fault classes ≡ None) (all : All
     same_texts x f there e p =
         let both = and_parts (bytes_eq (some_text (text_at l.«class».pool f.name)) (some_text (text_at l.«class».pool m.name))) _ p in
         let names = same_bytes (some_text (text_at l.«class».pool f.name)) (some_text (text_at l.«class».pool m.name)) both.0 in
-        let descs = same_bytes (some_text (text_at l.«class».pool f.desc)) (some_text (text_at l.«class».pool m.desc)) both.1 in
-        (e.named ∙ ap (λ o. Some (some_text o)) (sym e.named) ∙ ap (λ t. Some t) names ∙ ap (λ o. Some (some_text o)) d.named ∙ sym d.named,
-        e.described ∙ ap (λ o. Some (some_text o)) (sym e.described) ∙ ap (λ t. Some t) descs ∙ ap (λ o. Some (some_text o)) d.described ∙ sym d.described)
+        let descs = same_bytes (some_text (text_at l.«class».pool f.desc)) (some_text (text_at l.«class».pool m.desc)) both.1 in (
+          e.named ∙ ap (λ o. Some (some_text o)) (sym e.named) ∙ ap (λ t. Some t) names ∙ ap (λ o. Some (some_text o)) d.named ∙ sym d.named,
+          e.described ∙ ap (λ o. Some (some_text o)) (sym e.described) ∙ ap (λ t. Some t) descs ∙ ap (λ o. Some (some_text o)) d.described ∙ sym d.described,
+        )
 
     other : (x : ℕ) → x < place → option_map_or (is_called i.name i.desc) (method_at P (method_count (take own classes) + x)) false ≡ false
     other x lt =
@@ -320,8 +321,10 @@ module _ (classes : List Loaded) (none : link_fault classes ≡ None) (all : All
         ap (λ o. option_map_or (is_called i.name i.desc) o false) (classes_known.method_here classes none all own l at x f.0 e.decoded f.1 e.decodes)
         ∙ false_from_ne_true (is_called i.name i.desc (completed L (outline_method own l.«class».pool (f.0, e.decoded)))) (λ p.
         let texts = same_texts x f.0 f.1 e p in
-        apart (ap (λ (f : Method). text_at l.«class».pool f.name) one ∙ texts.0 ∙ sym (ap (λ (f : Method). text_at l.«class».pool f.name) two),
-        ap (λ (f : Method). text_at l.«class».pool f.desc) one ∙ texts.1 ∙ sym (ap (λ (f : Method). text_at l.«class».pool f.desc) two)))
+        apart (
+          ap (λ (f : Method). text_at l.«class».pool f.name) one ∙ texts.0 ∙ sym (ap (λ (f : Method). text_at l.«class».pool f.name) two),
+          ap (λ (f : Method). text_at l.«class».pool f.desc) one ∙ texts.1 ∙ sym (ap (λ (f : Method). text_at l.«class».pool f.desc) two),
+        ))
 
     alone_in : declared P own i.name i.desc ≡ Some n
     alone_in =

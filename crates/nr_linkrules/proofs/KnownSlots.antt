@@ -1,15 +1,13 @@
 -- The slots of the classes that are made where there is no fault.
-use Rattle.std.proofs.Common.{◌≡◌, ℕ, zero, suc, ◌+◌, ◌*◌, ◌-◌, ◌<◌, ◌≤◌, Bool, true, false, cond, List, [], ◌∷◌, ◌++◌, length, map, drop, refl, sym, ap, subst, ◌∙◌, arith, inl, inr, ◌&&◌, not, length-append}
+use Rattle.std.proofs.Common.{◌≡◌, ℕ, zero, suc, ◌+◌, ◌*◌, ◌<◌, ◌≤◌, Bool, true, false, cond, List, [], ◌∷◌, ◌++◌, length, map, drop, refl, sym, ap, subst, ◌∙◌, arith, not, length-append}
 use Rattle.std.specs.Prelude.{All, Option, Some, None, Ok, Err, IsTrue, slice_get, ◌==◌, ◌^◌, reverse, is_some, Result}
 use Rattle.std.specs.List.{filter, flat_map, list_all}
 use Rattle.std.specs.Option.{option_and_then, option_map, option_map_or, option_to_list}
 use Rattle.std.specs.Str.{bytes_eq}
 use Rattle.std.proofs.Math.Nat.{suc-mul}
 use Rattle.std.proofs.Math.Seq.{drop-append_seam}
-use Rattle.std.proofs.lemmas.Bool.{and_from, eq-eqb}
 use Rattle.std.proofs.lemmas.Grind.{flat_map-append}
-use Rattle.std.proofs.lemmas.List.Elements.{All-filter}
-use Rattle.std.proofs.lemmas.List.{length-map, length-reverse, reverse-append}
+use Rattle.std.proofs.lemmas.List.{length-reverse, reverse-append}
 use Rattle.std.proofs.lemmas.Option.{get_or_from_slice_get, same_Some, slice_get_within}
 use Rattle.nr_base.specs.Grammar.{IsBytes}
 use Rattle.nr_base.specs.Descs.{desc}
@@ -22,7 +20,7 @@ use Rattle.nr_prog.specs.declared.body.loaded.Loaded.{Loaded}
 use Rattle.nr_prog.specs.declared.member.Field.{Field}
 use Rattle.nr_prog.specs.declared.parts.ClassParts.{ClassParts}
 use Rattle.nr_prog.specs.declared.pool.PoolEntry.{PoolEntry}
-use Rattle.nr_prog.specs.Form.{IsFieldFormed, Spells}
+use Rattle.nr_prog.specs.Form.{IsFieldFormed}
 use Rattle.nr_prog.specs.Legal.{IsFieldDesc, IsFieldText}
 use Rattle.nr_prog.specs.Members.{is_static}
 use Rattle.nr_prog.specs.Pool.{IsText, text_at}
@@ -35,21 +33,19 @@ use Rattle.nr_linked.specs.declared.program.tables.ClassInfo.{ClassInfo}
 use Rattle.nr_linked.specs.declared.program.tables.ProgramTables.{ProgramTables}
 use Rattle.nr_linked.specs.declared.program.tables.SlotInfo.{SlotInfo}
 use Rattle.nr_linked.specs.BuiltIns.{built_in_count}
-use Rattle.nr_linked.specs.KindTexts.{kind_desc, kind_text}
-use Rattle.nr_linked.specs.Linked.{field_texts, inherited_slots, is_kind_in, is_loaded, is_slot_linked, own_slots, slot_texts}
-use Rattle.nr_linked.specs.Programs.{class_at, class_named, super_of, superclasses, upward}
+use Rattle.nr_linked.specs.KindTexts.{kind_desc}
+use Rattle.nr_linked.specs.Linked.{field_texts, inherited_slots, is_kind_in, own_slots, slot_texts}
+use Rattle.nr_linked.specs.Programs.{class_at, super_of, superclasses, upward}
 use Rattle.nr_linked.specs.Slots.{slots_of}
 use Rattle.nr_links.specs.Entries.{method_count}
-use Rattle.nr_links.proofs.Described.{same_bytes}
 use Rattle.nr_links.proofs.Places.{get_flat, get_mapped, some_of}
-use Rattle.nr_linkrules.specs.declared.fault.LinkFault.{LinkFault}
 use Rattle.nr_linkrules.specs.ClassRules.{base_fault, desc_fault, field_fault, members_fault, type_in}
 use Rattle.nr_linkrules.specs.Faults.{first_of}
 use Rattle.nr_linkrules.specs.Layout.{base_of, kind_of, kind_said, read_desc, slot_for, slot_of, slots_declared, slots_in, slots_read}
 use Rattle.nr_linkrules.specs.LinkFaults.{link_fault}
 use Rattle.nr_linkrules.specs.Outline.{bare_class, outline_class, some_text}
 use Rattle.nr_linkrules.specs.Readable.{IsReadable}
-use Rattle.nr_linkrules.specs.Reaches.{HasSteps, is_step}
+use Rattle.nr_linkrules.specs.Reaches.{HasSteps}
 use Rattle.nr_linkrules.proofs.Alike as alike
 use Rattle.nr_linkrules.proofs.Inherited.{inherits}
 use Rattle.nr_linkrules.proofs.Known as known

@@ -1,14 +1,13 @@
 -- The classes of the program that classes link to are those of the outline, laid out.
 use Rattle.std.proofs.Common.{◌≡◌, ℕ, zero, suc, ◌+◌, ◌<◌, Bool, true, false, List, [], ◌∷◌, ◌++◌, length, map, drop, refl, sym, ap, subst, ◌∙◌, arith, inl, inr, ◌||◌, not}
-use Rattle.std.specs.Prelude.{All, Option, Some, None, Ok, IsTrue, slice_get, reverse, ◌==◌, is_none}
-use Rattle.std.specs.List.{filter, flat_map, list_all, list_any, range_with_len}
+use Rattle.std.specs.Prelude.{Option, Some, None, IsTrue, slice_get, reverse, ◌==◌, is_none}
+use Rattle.std.specs.List.{filter, flat_map, list_any, range_with_len}
 use Rattle.std.specs.Option.{option_and_then, option_map, option_map_or, option_to_list}
-use Rattle.std.proofs.lemmas.Bool.{and_parts, both_ways, cases_Bool, eqb-true, false_from_ne_true, lt-ltb, ltb-true, or_cases}
+use Rattle.std.proofs.lemmas.Bool.{and_parts, eqb-true, ltb-true}
 use Rattle.std.proofs.lemmas.Grind.{flat_map-append}
 use Rattle.std.proofs.lemmas.List.{reverse-append}
-use Rattle.std.proofs.lemmas.Option.{get_or_from_slice_get, same_Some, slice_get_within}
+use Rattle.std.proofs.lemmas.Option.{get_or_from_slice_get, slice_get_within}
 use Rattle.nr_base.specs.Descs.{desc}
-use Rattle.nr_base.specs.DescReading.{desc_of}
 use Rattle.nr_prog.specs.declared.body.loaded.Loaded.{Loaded}
 use Rattle.nr_prog.specs.declared.member.Field.{Field}
 use Rattle.nr_prog.specs.declared.parts.ClassParts.{ClassParts}
@@ -25,12 +24,12 @@ use Rattle.nr_linked.specs.BuiltIns.{built_in}
 use Rattle.nr_linked.specs.BuiltInTables.{built_in_info}
 use Rattle.nr_linked.specs.KindTexts.{kind_desc}
 use Rattle.nr_linked.specs.Linked.{field_texts, inherited_slots, is_class_in, is_kind_in, is_slot_linked, own_slots, slot_texts}
-use Rattle.nr_linked.specs.Programs.{class_at, is_interface, super_of, superclasses, upward}
+use Rattle.nr_linked.specs.Programs.{class_at, super_of, upward}
 use Rattle.nr_linked.specs.Slots.{slots_of}
-use Rattle.nr_linked.specs.Subtypes.{Above, further, is_above, itself}
+use Rattle.nr_linked.specs.Subtypes.{Above, further, itself}
 use Rattle.nr_links.specs.Links.{Links}
 use Rattle.nr_links.proofs.BuiltInEntries.{info_of}
-use Rattle.nr_links.proofs.Listed.{is_listed, listed_all}
+use Rattle.nr_links.proofs.Listed.{is_listed}
 use Rattle.nr_links.proofs.OneClass.{SlotOk, one_rising}
 use Rattle.nr_links.proofs.OneNames.{same_functions, same_list}
 use Rattle.nr_links.proofs.Places.{get_below, get_dropped, passes_at}
@@ -38,13 +37,13 @@ use Rattle.nr_links.proofs.Reaching.{direct_step}
 use Rattle.nr_links.proofs.SlotFacts.{LoadedEntry, entry_cases}
 use Rattle.nr_linkrules.specs.Layout.{kind_of, kind_said, laid_class, laid_out, numbered, read_desc, slot_for, slot_of, slots_declared, slots_in, slots_read, supers_in}
 use Rattle.nr_linkrules.specs.Outline.{bare_class, outline, some_text}
-use Rattle.nr_linkrules.specs.Reaches.{HasSteps, is_step, reaches, steps_up}
+use Rattle.nr_linkrules.specs.Reaches.{HasSteps, reaches}
 use Rattle.nr_linkrules.proofs.Alike.{bare_says, count, entry, kinds_alike, named, on_entry, reached, upward_alike}
 use Rattle.nr_linkrules.proofs.Naming.{kind_back}
-use Rattle.nr_linkrules.proofs.Outlined.{bare_built_in, bare_loaded, classes_are, face_in}
+use Rattle.nr_linkrules.proofs.Outlined.{bare_built_in, bare_loaded, classes_are}
 use Rattle.nr_linkrules.proofs.Reached.{reaches_above}
 use Rattle.nr_linkrules.proofs.Steps.{steps_in}
-use Rattle.nr_linkrules.proofs.Rising.{filter_listed, listed_filter, listed_range, range_listed, rising_filter}
+use Rattle.nr_linkrules.proofs.Rising.{filter_listed, listed_filter, range_listed, rising_filter}
 
 pub numbered_at : {X Y : Type 0} (f : ℕ → X → Y) (n : ℕ) (xs : List X) (k : ℕ) → slice_get (numbered f n xs) k ≡ option_map (f (n + k)) (slice_get xs k)
 unfolding numbered

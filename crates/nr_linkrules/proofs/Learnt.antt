@@ -1,6 +1,6 @@
 -- What is known of classes that have no fault of the list of classes.
 use Rattle.std.proofs.Common.{◌≡◌, ℕ, zero, suc, ◌+◌, ◌<◌, ◌≤◌, Bool, true, false, cond, List, [], ◌∷◌, ◌++◌, length, map, take, get_or, refl, sym, ap, subst, ◌∙◌, arith, not}
-use Rattle.std.specs.Prelude.{Option, Some, None, slice_get, nat_lt, nat_le}
+use Rattle.std.specs.Prelude.{Some, None, slice_get, nat_lt, nat_le}
 use Rattle.std.specs.List.{list_any, position, position_or_len}
 use Rattle.std.specs.Option.{option_or}
 use Rattle.std.specs.Str.{bytes_eq}
@@ -9,9 +9,8 @@ use Rattle.std.proofs.lemmas.List.{get_or_append_left, length-map}
 use Rattle.std.proofs.lemmas.Option.{get_or_from_slice_get, slice_get-map, slice_get_within}
 use Rattle.nr_prog.specs.declared.body.loaded.Loaded.{Loaded}
 use Rattle.nr_links.specs.Rules.{is_reserved}
-use Rattle.nr_linkrules.specs.declared.fault.LinkFault.{LinkFault}
 use Rattle.nr_linkrules.specs.ClassRules.{doubled_fault, limit_fault, list_fault, reserved_fault}
-use Rattle.nr_linkrules.specs.Faults.{first_numbered, first_of, unless}
+use Rattle.nr_linkrules.specs.Faults.{first_numbered, first_of}
 use Rattle.nr_linkrules.specs.Outline.{names_of, number_in, own_name, own_names}
 use Rattle.nr_linkrules.proofs.NameLaws.{turned}
 use Rattle.nr_linkrules.proofs.NoFault.{both_none, each_numbered, each_of, is_false, passes}

@@ -26,6 +26,7 @@ pub mod KnownMethods
 pub mod KnownProgram
 pub mod GivenAll
 pub mod Completed
+pub mod Linking
 pub mod Ranks
 pub mod Naming
 pub mod Finding

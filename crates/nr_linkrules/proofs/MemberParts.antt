@@ -1,5 +1,5 @@
 -- The parts of the rules on members, where none finds a fault.
-use Rattle.std.proofs.Common.{◌≡◌, ℕ, true, not, ◌||◌, ap, sym, ◌∙◌}
+use Rattle.std.proofs.Common.{◌≡◌, ℕ, true, not, ◌||◌}
 use Rattle.std.specs.Prelude.{None}
 use Rattle.std.specs.Option.{option_or}
 use Rattle.nr_prog.specs.declared.member.Field.{Field}

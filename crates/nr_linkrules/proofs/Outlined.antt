@@ -1,9 +1,9 @@
 -- The tables that classes link to are, without what linking finds, the outline of the classes.
-use Rattle.std.proofs.Common.{◌≡◌, ℕ, zero, suc, ◌+◌, ◌<◌, ◌⊎◌, inl, inr, true, List, [], ◌∷◌, ◌++◌, length, map, take, drop, refl, sym, ap, subst, ◌∙◌, arith, length-append}
+use Rattle.std.proofs.Common.{◌≡◌, ℕ, zero, suc, ◌+◌, ◌<◌, true, List, [], ◌∷◌, ◌++◌, length, map, take, drop, refl, sym, ap, subst, ◌∙◌, arith, length-append}
 use Rattle.std.specs.Prelude.{Option, Some, None, IsTrue, slice_get}
 use Rattle.std.specs.List.{flat_map, list_all}
 use Rattle.std.specs.Option.{option_and_then, option_map, option_map_or, option_to_list}
-use Rattle.std.proofs.lemmas.Bool.{and_parts, cases_lt, lt-ltb, ltb-true}
+use Rattle.std.proofs.lemmas.Bool.{and_parts, lt-ltb, ltb-true}
 use Rattle.std.proofs.lemmas.List.{length-map}
 use Rattle.std.proofs.lemmas.Option.{same_Some, slice_get-map, slice_get_within}
 use Rattle.nr_prog.specs.declared.body.loaded.Loaded.{Loaded}
@@ -22,7 +22,6 @@ use Rattle.nr_links.specs.Entries.{method_count}
 use Rattle.nr_links.specs.Links.{Links}
 use Rattle.nr_links.proofs.Descriptors.{name_of}
 use Rattle.nr_links.proofs.OneClass.{counted}
-use Rattle.nr_links.proofs.OneNames.{same_list}
 use Rattle.nr_links.proofs.Places.{get_below, get_dropped, passing}
 use Rattle.nr_links.proofs.SlotFacts.{LoadedEntry, below_loaded, loaded_entry}
 use Rattle.nr_linkrules.specs.Outline.{bare_class, class_number, names_of, number_in, outline, outline_class, outline_classes, own_name, own_names, some_text}

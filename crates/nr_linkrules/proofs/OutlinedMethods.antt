@@ -1,10 +1,10 @@
 -- The methods of the program that classes link to are, without what linking finds, those of the outline of the classes.
-use Rattle.std.proofs.Common.{◌≡◌, ℕ, zero, suc, ◌+◌, ◌<◌, List, [], ◌∷◌, ◌++◌, length, map, take, drop, refl, sym, ap, subst, ◌∙◌, arith, length-append}
+use Rattle.std.proofs.Common.{◌≡◌, ℕ, zero, suc, ◌+◌, List, [], ◌∷◌, ◌++◌, length, map, take, drop, refl, sym, ap, subst, ◌∙◌, arith, length-append}
 use Rattle.std.specs.Prelude.{All, Option, Some, None, slice_get}
 use Rattle.std.specs.List.{flat_map, zip}
 use Rattle.std.specs.Option.{option_map}
 use Rattle.std.proofs.lemmas.List.{length-map}
-use Rattle.std.proofs.lemmas.Option.{get_or_from_slice_get, same_Some, slice_get-map, slice_get_within}
+use Rattle.std.proofs.lemmas.Option.{same_Some, slice_get-map, slice_get_within}
 use Rattle.nr_prog.specs.declared.body.loaded.Loaded.{Loaded}
 use Rattle.nr_prog.specs.declared.body.whole.Body.{Body}
 use Rattle.nr_prog.specs.declared.member.Method.{Method}
@@ -13,7 +13,7 @@ use Rattle.nr_linked.specs.declared.program.tables.MethodInfo.{MethodInfo}
 use Rattle.nr_linked.specs.declared.program.tables.ProgramTables.{ProgramTables}
 use Rattle.nr_prog.specs.BodyText.{EachBody}
 use Rattle.nr_linked.specs.BuiltInTables.{built_in_methods}
-use Rattle.nr_linked.specs.Linked.{first_built_in, first_built_in_method}
+use Rattle.nr_linked.specs.Linked.{first_built_in_method}
 use Rattle.nr_linked.specs.Programs.{method_at}
 use Rattle.nr_links.specs.Entries.{method_count}
 use Rattle.nr_links.specs.Links.{IsDecoded, Links}

@@ -1,10 +1,10 @@
 -- Classes that link have no fault of the list of classes, of what they name above them, or of cycles.
-use Rattle.std.proofs.Common.{◌≡◌, ℕ, zero, suc, ◌+◌, ◌<◌, inl, inr, Bool, true, false, List, [], ◌∷◌, length, take, get_or, refl, sym, ap, subst, ◌∙◌, arith, not}
+use Rattle.std.proofs.Common.{◌≡◌, ℕ, zero, suc, ◌<◌, false, List, [], ◌∷◌, length, take, get_or, refl, sym, ap, subst, ◌∙◌, arith, not}
 use Rattle.std.specs.Prelude.{Option, Some, None, IsTrue, slice_get, ◌==◌, nat_le, is_some}
 use Rattle.std.specs.List.{list_any}
-use Rattle.std.specs.Option.{option_map, option_map_or, option_or}
+use Rattle.std.specs.Option.{option_map, option_map_or}
 use Rattle.std.specs.Str.{bytes_eq}
-use Rattle.std.proofs.lemmas.Bool.{and_from, and_parts, both_ways, eq-eqb, eqb-true, false_from_ne_true, le-leb, or_cases, or_left, or_right}
+use Rattle.std.proofs.lemmas.Bool.{and_from, and_parts, both_ways, eqb-true, false_from_ne_true, le-leb}
 use Rattle.std.proofs.lemmas.List.Folds.{list_any_none}
 use Rattle.std.proofs.lemmas.List.{get_or-take, get_or_append_left, length-map, length-take-le}
 use Rattle.std.proofs.lemmas.List.Quantifiers.{position-Some}
@@ -22,13 +22,10 @@ use Rattle.nr_linked.specs.Linked.{is_class_in, is_loaded}
 use Rattle.nr_linked.specs.Programs.{class_at, class_named, is_interface}
 use Rattle.nr_links.specs.Links.{Links}
 use Rattle.nr_links.specs.Rules.{is_reserved}
-use Rattle.nr_links.proofs.Listed.{is_listed}
 use Rattle.nr_links.proofs.Places.{get_mapped, passes_at}
 use Rattle.nr_links.proofs.Reaching.{step_direct}
 use Rattle.nr_links.proofs.SlotFacts.{LoadedEntry, below_loaded, loaded_entry, not_loaded, super_in}
-use Rattle.nr_linkrules.specs.declared.fault.LinkFault.{LinkFault}
 use Rattle.nr_linkrules.specs.ClassRules.{above_fault, cycle_fault, doubled_fault, has_final_above, has_kinds_above, is_above_itself, known_fault, limit_fault, list_fault, named_above_fault, named_fault, reserved_fault}
-use Rattle.nr_linkrules.specs.Faults.{first_numbered, first_of, unless}
 use Rattle.nr_linkrules.specs.LinkFaults.{first_class_fault, on_loaded, Rule}
 use Rattle.nr_linkrules.specs.Outline.{bare_class, names_of, number_in, outline, own_name, own_names, some_text}
 use Rattle.nr_linkrules.specs.Reaches.{reaches, steps_up}

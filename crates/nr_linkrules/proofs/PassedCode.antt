@@ -1,15 +1,11 @@
 -- Classes that link have no fault of instructions, exception handlers and frame maps; and so no fault at all.
-use Rattle.std.proofs.Common.{◌≡◌, ℕ, zero, suc, Bool, true, false, cond, List, [], ◌∷◌, ◌++◌, length, map, refl, arith, sym, ap, subst, ◌∙◌, inl, inr, ◌&&◌}
-use Rattle.std.specs.Prelude.{All, Option, Some, None, Ok, Err, IsTrue, slice_get, ◌==◌, if◌then◌else◌, is_some}
+use Rattle.std.proofs.Common.{◌≡◌, ℕ, zero, suc, Bool, true, false, List, [], ◌∷◌, length, map, refl, arith, sym, ap, subst, ◌∙◌, inl, inr}
+use Rattle.std.specs.Prelude.{All, Option, Some, None, IsTrue, slice_get, ◌==◌, if◌then◌else◌, is_some}
 use Rattle.std.specs.List.{AllZip, list_all}
 use Rattle.std.specs.Option.{option_map, option_map_or, option_or}
 use Rattle.std.proofs.lemmas.Bool.{and_from, and_parts, eq-eqb, ltb-true}
 use Rattle.std.proofs.lemmas.Option.{same_Some, slice_get-map, slice_get_within}
-use Rattle.nr_base.specs.declared.desc.types.Desc.{Desc}
-use Rattle.nr_base.specs.declared.desc.types.DescBase.{DescBase}
-use Rattle.nr_base.specs.declared.desc.types.DescBase.TheVariants as desc_bases
 use Rattle.nr_prog.specs.declared.body.frame_map.FrameMap.{FrameMap}
-use Rattle.nr_prog.specs.declared.body.frame_map.MapType.{MapType}
 use Rattle.nr_prog.specs.declared.body.instruction.Instr.{Instr}
 use Rattle.nr_prog.specs.declared.body.loaded.Loaded.{Loaded}
 use Rattle.nr_prog.specs.declared.member.Handler.{Handler}
@@ -24,9 +20,9 @@ use Rattle.nr_linked.specs.declared.program.types.VFrame.{VFrame}
 use Rattle.nr_linked.specs.declared.program.types.VType.{VType}
 use Rattle.nr_linked.specs.declared.program.types.VType.TheVariants as types
 use Rattle.nr_linked.specs.BuiltInTables.{built_in_method}
-use Rattle.nr_linked.specs.KindTexts.{base_desc, class_name, kind_desc}
+use Rattle.nr_linked.specs.KindTexts.{base_desc, class_name}
 use Rattle.nr_linked.specs.Kinds.{class_in}
-use Rattle.nr_linked.specs.Linked.{frame_maps_of, handlers_of, instrs_of, is_class_in, is_frame_in, is_kind_in, is_type_in}
+use Rattle.nr_linked.specs.Linked.{frame_maps_of, handlers_of, instrs_of, is_class_in, is_frame_in, is_type_in}
 use Rattle.nr_linked.specs.Programs.{class_at, class_named, method_at}
 use Rattle.nr_linked.specs.TypingFrames.{in_places}
 use Rattle.nr_links.specs.Entries.{IsCaught, IsFrameOf, map_type}
@@ -38,12 +34,12 @@ use Rattle.nr_links.proofs.MethodEntries.{LoadedMethod, method_cases}
 use Rattle.nr_links.proofs.Places.{get_below, get_mapped, passes_at}
 use Rattle.nr_links.proofs.SlotFacts.{LoadedEntry, below_loaded, loaded_entry}
 use Rattle.nr_linkrules.specs.declared.fault.LinkFault.{LinkFault}
-use Rattle.nr_linkrules.specs.ClassRules.{base_fault, cycle_fault, desc_fault, known_fault}
-use Rattle.nr_linkrules.specs.Faults.{first_of, unless}
+use Rattle.nr_linkrules.specs.ClassRules.{base_fault, known_fault}
+use Rattle.nr_linkrules.specs.Faults.{first_of}
 use Rattle.nr_linkrules.specs.Layout.{laid_out}
 use Rattle.nr_linkrules.specs.LinkFaults.{classes_fault, code_faults, link_fault}
 use Rattle.nr_linkrules.specs.Outline.{bare_method, outline}
-use Rattle.nr_linkrules.specs.SiteRules.{Finding, around_fault, code_fault, fault_of, handler_fault, instr_found, kind_at, map_fault, place_in, pool_of, type_fault}
+use Rattle.nr_linkrules.specs.SiteRules.{around_fault, code_fault, fault_of, handler_fault, instr_found, kind_at, map_fault, place_in, pool_of, type_fault}
 use Rattle.nr_linkrules.proofs.Alike.{bare_method_says}
 use Rattle.nr_linkrules.proofs.Finding.{found_is_given}
 use Rattle.nr_linkrules.proofs.LaidOut.{laid_classes}
@@ -163,9 +159,10 @@ module _ (classes : List Loaded) (P : ProgramTables) (links : Links classes P) (
     -- the method has no code
     none_without : instrs_of t.j ≡ [] → handlers_of t.j ≡ [] → frame_maps_of t.j ≡ [] → (code_fault L i ≡ None) × (around_fault L i ≡ None)
     unfolding code_fault around_fault first_of
-    none_without no_code no_handlers no_maps =
-        (ap (first_of (λ n. fault_of (instr_found L (place_in L i) (pool_of L i) n))) (says instrs_of (λ i. refl) i t.j t.alike ∙ no_code),
-        (λ at. option_or (first_of (handler_fault L (pool_of L i)) ((says handlers_of (λ i. refl) i t.j t.alike ∙ no_handlers) at)) (first_of (map_fault L) ((says frame_maps_of (λ i. refl) i t.j t.alike ∙ no_maps) at))))
+    none_without no_code no_handlers no_maps = (
+      ap (first_of (λ n. fault_of (instr_found L (place_in L i) (pool_of L i) n))) (says instrs_of (λ i. refl) i t.j t.alike ∙ no_code),
+      (λ at. option_or (first_of (handler_fault L (pool_of L i)) ((says handlers_of (λ i. refl) i t.j t.alike ∙ no_handlers) at)) (first_of (map_fault L) ((says frame_maps_of (λ i. refl) i t.j t.alike ∙ no_maps) at))),
+    )
 
     module _ (m : LoadedMethod classes P n t.j) (e : ClassInfo) (is : class_at P m.own ≡ Some e) (l : LoadedEntry classes P m.own e) where
       same_class : l.l ≡ m.l

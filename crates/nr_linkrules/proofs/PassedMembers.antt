@@ -1,12 +1,11 @@
 -- Classes that link have no fault of members.
-use Rattle.std.proofs.Common.{◌≡◌, ℕ, ◌+◌, Bool, true, false, List, [], ◌∷◌, ◌++◌, length, map, refl, sym, ap, subst, ◌∙◌, arith, not, ◌&&◌, ◌||◌, inl, inr}
-use Rattle.std.specs.Prelude.{All, Option, Some, None, Ok, IsTrue, slice_get, ◌==◌}
-use Rattle.std.specs.List.{list_all, list_any, range_with_len}
+use Rattle.std.proofs.Common.{◌≡◌, ℕ, ◌+◌, Bool, true, false, List, [], ◌∷◌, length, map, refl, sym, ap, subst, ◌∙◌, arith, not, ◌&&◌, ◌||◌}
+use Rattle.std.specs.Prelude.{All, Option, Some, None, IsTrue, slice_get, ◌==◌}
+use Rattle.std.specs.List.{list_all, range_with_len}
 use Rattle.std.specs.Option.{option_map, option_map_or, option_to_list}
 use Rattle.std.proofs.lemmas.Bool.{and_parts, both_ways, cases_Bool, eqb-true, false_from_ne_true, or_left, or_right}
-use Rattle.std.proofs.lemmas.Option.{get_or_from_slice_get, same_Some, slice_get-map, slice_get_within}
+use Rattle.std.proofs.lemmas.Option.{get_or_from_slice_get, slice_get-map, slice_get_within}
 use Rattle.nr_base.specs.DescReading.{desc_of, method_of}
-use Rattle.nr_base.specs.declared.desc.types.Desc.{Desc}
 use Rattle.nr_prog.specs.declared.body.loaded.Loaded.{Loaded}
 use Rattle.nr_prog.specs.declared.body.whole.Body.{Body}
 use Rattle.nr_prog.specs.declared.member.Field.{Field}
@@ -26,21 +25,20 @@ use Rattle.nr_linked.specs.Linked.{is_class_in, is_kind_in, is_kind_in_or_none, 
 use Rattle.nr_linked.specs.Programs.{class_at, is_interface, method_at, methods_of}
 use Rattle.nr_linked.specs.Selection.{is_selectable}
 use Rattle.nr_linked.specs.Subtypes.{Above}
-use Rattle.nr_links.specs.Entries.{IsMethodAs, method_count}
+use Rattle.nr_links.specs.Entries.{IsMethodAs}
 use Rattle.nr_links.specs.Links.{IsDecoded, Links}
 use Rattle.nr_links.specs.Rules.{SaysKind, has_interface_members, is_final}
-use Rattle.nr_links.proofs.Places.{get_below, get_mapped, get_range, passing, some_of}
+use Rattle.nr_links.proofs.Places.{get_below, get_mapped, get_range, some_of}
 use Rattle.nr_links.proofs.MethodEntries.{method_from}
 use Rattle.nr_links.proofs.Selecting.{held}
 use Rattle.nr_links.proofs.SlotFacts.{LoadedEntry}
-use Rattle.nr_linkrules.specs.declared.fault.LinkFault.{LinkFault}
 use Rattle.nr_linkrules.specs.declared.fault.LinkFault.TheVariants as faults
 use Rattle.nr_linkrules.specs.ClassRules.{desc_fault, field_fault, has_final, has_final_over, hides_final, is_final_as, members_fault, method_fault, method_name, override_fault, type_in, types_in}
 use Rattle.nr_linkrules.specs.Faults.{first_of, unless}
 use Rattle.nr_linkrules.specs.LinkFaults.{first_class_fault}
 use Rattle.nr_linkrules.specs.Outline.{bare_class, some_text}
 use Rattle.nr_linkrules.specs.Reaches.{reaches}
-use Rattle.nr_linkrules.proofs.Alike.{bare_says, declares, interfaces, overrides}
+use Rattle.nr_linkrules.proofs.Alike.{declares, interfaces, overrides}
 use Rattle.nr_linkrules.proofs.NoFault.{any_at, none_of, none_of_both, none_or, not_so, passed}
 use Rattle.nr_linkrules.proofs.Outlined.{classes_are}
 use Rattle.nr_linkrules.proofs.OutlinedMethods.{methods_are, one_body_each}

@@ -1,7 +1,7 @@
 -- What is found for instructions in programs of the same classes, whose methods have the same names, descriptors, flags and
 -- classes, is the same.
 use Rattle.std.proofs.Common.{◌≡◌, ℕ, Bool, false, List, map, refl, sym, ap, ◌∙◌, find}
-use Rattle.std.specs.Prelude.{Option, Some, None, Ok, Err, codes, if◌then◌else◌}
+use Rattle.std.specs.Prelude.{None, Ok, Err, codes, if◌then◌else◌}
 use Rattle.std.specs.List.{flat_map}
 use Rattle.std.specs.Str.{bytes_eq}
 use Rattle.std.specs.Option.{option_map_or}
@@ -11,18 +11,16 @@ use Rattle.nr_prog.specs.declared.body.instruction.Instr.{Instr}
 use Rattle.nr_prog.specs.declared.pool.PoolEntry.{PoolEntry}
 use Rattle.nr_instrs.specs.Checks.{then_on}
 use Rattle.nr_linked.specs.declared.program.kind.Kind.{Kind}
-use Rattle.nr_linked.specs.declared.program.tables.ClassInfo.{ClassInfo}
 use Rattle.nr_linked.specs.declared.program.tables.MethodInfo.{MethodInfo}
 use Rattle.nr_linked.specs.declared.program.tables.ProgramTables.{ProgramTables}
 use Rattle.nr_linked.specs.declared.program.tables.Resolved.{Resolved}
 use Rattle.nr_linked.specs.declared.program.tables.Resolved.TheVariants as resolved
 use Rattle.nr_linked.specs.Kinds.{is_array}
-use Rattle.nr_linked.specs.Programs.{method_at, methods_of}
+use Rattle.nr_linked.specs.Programs.{methods_of}
 use Rattle.nr_linked.specs.Selection.{is_called}
 use Rattle.nr_links.specs.Found.{index_in}
 use Rattle.nr_links.specs.Resolution.{class_with_members, classes_for, is_called_at, resolved_method}
 use Rattle.nr_links.proofs.OneNames.{same_functions}
-use Rattle.nr_linkrules.specs.declared.fault.LinkFault.{LinkFault}
 use Rattle.nr_linkrules.specs.declared.fault.LinkFault.TheVariants.{MemberKind}
 use Rattle.nr_linkrules.specs.Outline.{bare_method}
 use Rattle.nr_linkrules.specs.SiteRules.{Finding, Place, Search, by_member, callable, can_call, found_by, instr_found, kind_at, kind_named, method_found, method_in, method_of, no_method, on_entry, or_fault}

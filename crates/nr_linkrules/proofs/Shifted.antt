@@ -6,7 +6,6 @@ use Rattle.std.specs.Option.{option_and_then, option_map, option_map_or, option_
 use Rattle.std.proofs.lemmas.Bool.{and_parts, cases_Bool, cases_lt, eq-eqb, eqb-false, eqb-true, false_from_ne_true, lt-ltb, or_cases, or_left, or_right}
 use Rattle.std.proofs.lemmas.Option.{same_Some, slice_get-map, slice_get_within}
 use Rattle.nr_base.specs.Descs.{method_text}
-use Rattle.nr_linked.specs.declared.program.built_in.BuiltIn.{BuiltIn}
 use Rattle.nr_linked.specs.declared.program.built_in.BuiltIn.TheVariants.{Object}
 use Rattle.nr_linked.specs.declared.program.kind.Base.{Base}
 use Rattle.nr_linked.specs.declared.program.kind.Base.TheVariants as bases
@@ -24,11 +23,10 @@ use Rattle.nr_linked.specs.Linked.{IsClassLinked, IsMethodLinked, declared, inhe
 use Rattle.nr_linked.specs.Programs.{class_at, class_named, is_interface, method_at, methods_of, super_of, superclasses, upward}
 use Rattle.nr_linked.specs.Selection.{is_called}
 use Rattle.nr_linked.specs.Slots.{slots_of}
-use Rattle.nr_linked.specs.Subtypes.{Above, IsDirectlyAbove, further, is_above, itself}
+use Rattle.nr_linked.specs.Subtypes.{Above, further, is_above, itself}
 use Rattle.nr_linked.proofs.Witness as witness
 use Rattle.nr_links.proofs.BuiltInEntries.{on_all}
 use Rattle.nr_links.proofs.Listed.{is_listed, listed_all}
-use Rattle.nr_links.proofs.OneNames.{same_functions}
 use Rattle.nr_links.proofs.Upward.{has_entry}
 use Rattle.nr_linkrules.proofs.Rising.{range_listed}
 use Rattle.nr_links.proofs.Places.{get_below, get_flat, get_mapped, passes_at}
@@ -212,7 +210,7 @@ module _ (P : ProgramTables) (n m : ℕ) (count : length P.classes ≡ n + built
   step_behind c s p = listed_behind n s (steps_up T c) (subst (λ ss. IsTrue (is_listed s ss)) (steps_there c) p)
 
   step_there : (c t : ℕ) → IsTrue (is_step T c t) → IsTrue (is_step P (n + c) (n + t))
-  step_there c t p = subst (λ ss. IsTrue (is_listed (n + t) ss)) (sym (steps_there c)) (sym (sym (any_behind (λ s. s == n + t) (λ a. n + a) (λ s. s == t) (λ s. eq_behind n s t) (steps_up T c)) ) ∙ p)
+  step_there c t p = subst (λ ss. IsTrue (is_listed (n + t) ss)) (sym (steps_there c)) (sym (sym (any_behind (λ s. s == n + t) (λ a. n + a) (λ s. s == t) (λ s. eq_behind n s t) (steps_up T c))) ∙ p)
 
   pub back : (c x : ℕ) → Above P c x → (d : ℕ) → c ≡ n + d → (y : ℕ) × (x ≡ n + y) × Above T d y
   back c x itself d e = (d, e, itself)
@@ -226,12 +224,13 @@ module _ (P : ProgramTables) (n m : ℕ) (count : length P.classes ≡ n + built
   forth c d (further {s = s} step rest) = further (step_direct (class_at P (n + c)) (n + s) (step_there c s (direct_step (class_at T c) s step))) (forth s d rest)
 
   supers_there : (c : ℕ) (e : ClassInfo) → class_at T c ≡ Some e → (x : ℕ) → IsTrue (is_above P (n + c) x) ↔ Above P (n + c) x
-  supers_there c e at x =
-      (λ p. let d = above_behind c x p in
-      let there = subst (λ x. IsTrue (is_above P (n + c) x)) d.1 p in
-      subst (Above P (n + c)) (sym d.1) (forth c d.0 (((witness.linked.classes c e at).supers d.0).0 (sym (above_there c d.0) ∙ there))),
-      λ a. let r = back (n + c) x a c refl in
-      subst (λ x. IsTrue (is_above P (n + c) x)) (sym r.1) (above_there c r.0 ∙ ((witness.linked.classes c e at).supers r.0).1 r.2))
+  supers_there c e at x = (
+    λ p. let d = above_behind c x p in
+        let there = subst (λ x. IsTrue (is_above P (n + c) x)) d.1 p in
+        subst (Above P (n + c)) (sym d.1) (forth c d.0 (((witness.linked.classes c e at).supers d.0).0 (sym (above_there c d.0) ∙ there))),
+    λ a. let r = back (n + c) x a c refl in
+        subst (λ x. IsTrue (is_above P (n + c) x)) (sym r.1) (above_there c r.0 ∙ ((witness.linked.classes c e at).supers r.0).1 r.2),
+  )
 
   slots_there : (j : ℕ) → slots_of P (n + j) ≡ slots_of T j
   slots_there j = on_class (λ (e : ClassInfo). e.slots) (λ (e : ClassInfo). e.slots) [] (λ e. refl) j
