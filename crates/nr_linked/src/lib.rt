@@ -5,8 +5,8 @@ mod program;
 mod typing;
 
 pub use program::{
-    Base, BuiltIn, ClassId, ClassInfo, Kind, MethodId, MethodInfo, MethodName, Program, ProgramTables,
-    Resolved, SlotInfo, Superclasses, VFrame, VType, built_in_classes_have_no_slot, built_ins_are_linked,
-    static_methods_are_found,
+    Base, BuiltIn, ClassId, ClassInfo, Kind, MethodId, MethodInfo, MethodName, Program,
+    ProgramTables, Resolved, SlotInfo, Superclasses, VFrame, VType, built_in_classes_have_no_slot,
+    built_ins_are_linked, static_methods_are_found,
 };
 pub use typing::{OpFault, Verified, Wanted};

@@ -118,7 +118,7 @@ module _ (classes : List Loaded) (P : ProgramTables) (links : Links classes P) (
         let pool = r.l.«class».pool in
         let short = (all_at IsDecoded classes x.declared_in r.l all r.at).bounds.texts in
         let there : slice_get (map (field_texts pool) (filter (λ (f : Field). not (is_static f.flags)) r.l.«class».fields)) own.place ≡ Some (slot_texts x) =
-            ap (λ ts. slice_get ts own.place) (sym r.read_as.fields) ∙ slice_get-map slot_texts (own_slots P own.entry) own.place ∙ ap (option_map slot_texts) own.own in
+        ap (λ ts. slice_get ts own.place) (sym r.read_as.fields) ∙ slice_get-map slot_texts (own_slots P own.entry) own.place ∙ ap (option_map slot_texts) own.own in
         let f = get_mapped (field_texts pool) (filter (λ (f : Field). not (is_static f.flags)) r.l.«class».fields) own.place (slot_texts x) there in
         let texts = texts_of x.name x.desc (text_at pool f.0.name) (text_at pool f.0.desc) f.2 in
         (short_text pool f.0.name x.name short texts.0, short_text pool f.0.desc x.desc short texts.1)

@@ -145,8 +145,7 @@ module _ (classes : List Loaded) (P : ProgramTables) (links : Links classes P) w
   own_declared : (c i j : ℕ) (e : ClassInfo) (x : SlotInfo) → class_at P c ≡ Some e → slice_get (own_slots P e) j ≡ Some x → slice_get (slots_of P c) i ≡ Some x → Declared c i x
   unfolding Declared
   own_declared c i j e x is own at =
-      let same = eqb-true x.declared_in c (passes_at (λ (s : SlotInfo). s.declared_in == c) (own_slots P e) j x (links.linked.classes c e is).own own) in
-      (
+      let same = eqb-true x.declared_in c (passes_at (λ (s : SlotInfo). s.declared_in == c) (own_slots P e) j x (links.linked.classes c e is).own own) in (
         subst (λ d. Above P c d) (sym same) itself,
         subst (λ d. slice_get (slots_of P d) i ≡ Some x) (sym same) at,
         record { entry = e; is_entry = subst (λ d. class_at P d ≡ Some e) (sym same) is; place = j; own = own },

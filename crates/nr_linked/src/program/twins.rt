@@ -12,10 +12,7 @@ use std::alloc::{AllocError, Global};
 use std::collections::BTreeSet;
 
 /// Adds a slot, and says whether no twin of it is there.
-fn add<'a>(
-    seen: &mut BTreeSet<(ClassId, &'a [u8])>,
-    slot: &'a SlotInfo,
-) -> Result<bool, AllocError>
+fn add<'a>(seen: &mut BTreeSet<(ClassId, &'a [u8])>, slot: &'a SlotInfo) -> Result<bool, AllocError>
     ensures new { IfOk result (λ new. new ≡ not (has seen.old slot.now)) }
     ensures kept { OnOk result ((t : Slot) → has seen.new t ≡ (is_twin slot.now t || has seen.old t)) }
 {
