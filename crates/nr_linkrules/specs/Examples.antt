@@ -14,6 +14,8 @@ use Rattle.nr_prog.specs.declared.body.whole.Body.{Body}
 use Rattle.nr_prog.specs.declared.member.Handler.{Handler}
 use Rattle.nr_prog.specs.declared.pool.PoolEntry.{PoolEntry}
 use Rattle.nr_prog.specs.declared.pool.PoolEntry.TheVariants.{Class, FieldRef, MethodRef, NameAndType, Utf8}
+use Rattle.nr_linked.specs.declared.program.tables.MethodInfo.{MethodInfo}
+use Rattle.nr_linked.specs.declared.program.tables.ProgramTables.{ProgramTables}
 use Rattle.nr_links.specs.Example.{body_of, code_of, getfield, instr, return_}
 use Rattle.nr_linkrules.specs.declared.fault.LinkFault.{LinkFault}
 use Rattle.nr_linkrules.specs.declared.fault.LinkFault.TheVariants as faults
@@ -276,3 +278,9 @@ site_examples =
     -- instructions of all classes before exception handlers
     ∷ fails (catching (codes "Q") 8 ∷ with_code (codes "B") MethodRef (codes "R") [] [] (at_1 192 F37 8) ∷ []) (faults.NoClass (codes "R"))
     ∷ []
+
+-- ---- a program to run
+
+-- the tables with a method `main` of an array of ints that gives an int, in place of each method's descriptor
+unfoldable pub runnable : ProgramTables → ProgramTables
+runnable P = record P { methods = map (λ (i : MethodInfo). record i { desc = codes "([I)I" }) P.methods }

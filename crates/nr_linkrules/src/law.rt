@@ -20,7 +20,7 @@ ghost use Rattle.nr_links.specs.Rules.{is_reserved};
 ghost use Rattle.nr_linkrules.specs.declared.fault.LinkFault.TheVariants as faults;
 ghost use Rattle.nr_linkrules.specs.ClassRules.{is_above_itself, list_fault};
 ghost use Rattle.nr_linkrules.specs.Completion.{linked_program};
-ghost use Rattle.nr_linkrules.specs.Examples.{above_examples, list_examples, member_examples, site_examples};
+ghost use Rattle.nr_linkrules.specs.Examples.{above_examples, list_examples, member_examples, runnable, site_examples};
 ghost use Rattle.nr_linkrules.specs.Layout.{laid_out, slots_declared, slots_in};
 ghost use Rattle.nr_linkrules.specs.LinkFaults.{link_fault};
 ghost use Rattle.nr_linkrules.specs.Mains.{main_of, service_of};
@@ -100,8 +100,10 @@ pub fn lists_have_their_faults()
 pub fn examples_can_link()
     ensures fault { link_fault loaded ≡ None }
     ensures program { linked_program loaded ≡ tables }
-    ensures main { main_of tables (codes "A") ≡ Err (faults.NoMain (codes "A")) }
-    ensures no_main { main_of tables (codes "B") ≡ Err (faults.NoClass (codes "B")) }
+    ensures main { main_of (runnable tables) (codes "A") ≡ Ok 2 }
+    ensures no_main { main_of tables (codes "A") ≡ Err (faults.NoMain (codes "A")) }
+    ensures main_without_code { main_of (runnable tables) (codes "Face") ≡ Err (faults.NoMain (codes "Face")) }
+    ensures main_of_none { main_of tables (codes "B") ≡ Err (faults.NoClass (codes "B")) }
     ensures service { service_of tables (codes "A") ≡ Ok 0 }
     ensures interface { service_of tables (codes "Face") ≡ Err (faults.NoService (codes "Face")) }
     ensures built_in { service_of tables (codes "nrmi/Out") ≡ Err (faults.NoService (codes "nrmi/Out")) }

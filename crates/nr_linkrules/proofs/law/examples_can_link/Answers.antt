@@ -13,6 +13,12 @@ returns-clause-main c = examples.main
 pub returns-clause-no_main : goal.returns-clause-no_main
 returns-clause-no_main c = examples.no_main
 
+pub returns-clause-main_without_code : goal.returns-clause-main_without_code
+returns-clause-main_without_code c = examples.main_without_code
+
+pub returns-clause-main_of_none : goal.returns-clause-main_of_none
+returns-clause-main_of_none c = examples.main_of_none
+
 pub returns-clause-service : goal.returns-clause-service
 returns-clause-service c = examples.service
 
