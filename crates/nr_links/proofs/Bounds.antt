@@ -12,14 +12,12 @@ use Rattle.nr_base.specs.declared.desc.types.DescBase.{DescBase}
 use Rattle.nr_base.specs.declared.desc.types.DescBase.TheVariants as desc_bases
 use Rattle.nr_prog.specs.declared.body.loaded.Loaded.{Loaded}
 use Rattle.nr_prog.specs.declared.body.whole.Body.{Body}
-use Rattle.nr_prog.specs.declared.member.Code.{Code}
 use Rattle.nr_prog.specs.declared.member.Field.{Field}
 use Rattle.nr_prog.specs.declared.member.Method.{Method}
 use Rattle.nr_prog.specs.declared.pool.PoolEntry.{PoolEntry}
 use Rattle.nr_prog.specs.declared.pool.PoolEntry.TheVariants.{Utf8, Class}
 use Rattle.nr_prog.specs.BodyNames.{class_text_at, class_text_in}
-use Rattle.nr_prog.specs.BodyText.{BodyFor}
-use Rattle.nr_prog.specs.Form.{IsClassOf, IsWithinBounds, NamesClass, handler_count}
+use Rattle.nr_prog.specs.Form.{IsClassOf, NamesClass, handler_count}
 use Rattle.nr_prog.specs.Legal.{IsClassText}
 use Rattle.nr_prog.specs.Members.{is_static}
 use Rattle.nr_prog.specs.Pool.{entry_at, text_at, text_in, text_len}
@@ -39,7 +37,7 @@ use Rattle.nr_linked.proofs.Elements.{get_mapped, some_of}
 use Rattle.nr_links.specs.Links.{IsDecoded, Links}
 use Rattle.nr_links.proofs.LaidOut.{of_code}
 use Rattle.nr_links.proofs.MethodEntries.{LoadedMethod, all_at, method_cases}
-use Rattle.nr_links.proofs.SlotFacts.{OwnSlot, entry_cases, own_slot}
+use Rattle.nr_links.proofs.SlotFacts.{entry_cases, own_slot}
 
 -- ---- texts of a constant pool
 

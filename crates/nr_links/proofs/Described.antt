@@ -1,11 +1,11 @@
 -- What the descriptor of a method says is what its entry says; and what holds of initialisers and of the methods of nrmi/Out.
-use Rattle.std.proofs.Common.{◌≡◌, ℕ, zero, suc, ◌+◌, inl, inr, Bool, true, false, List, [], ◌∷◌, map, refl, sym, ap, subst, ◌∙◌, arith, not, ◌||◌, lit≤}
+use Rattle.std.proofs.Common.{◌≡◌, ℕ, zero, suc, ◌+◌, inl, inr, Bool, true, false, List, [], ◌∷◌, map, refl, sym, ap, subst, ◌∙◌, lit≤}
 use Rattle.std.specs.Prelude.{Option, Some, None, All, IsTrue, slice_get, codes, is_none, is_some, if◌then◌else◌}
-use Rattle.std.specs.List.{AllByRecursion, list_all}
+use Rattle.std.specs.List.{AllByRecursion}
 use Rattle.std.specs.Option.{option_map}
 use Rattle.std.specs.Str.{bytes_eq}
-use Rattle.std.proofs.lemmas.Bool.{both_ways, not-true, or_cases}
-use Rattle.std.proofs.lemmas.Option.{get_or_from_slice_get, same_Some, slice_get_within}
+use Rattle.std.proofs.lemmas.Bool.{both_ways, not-true}
+use Rattle.std.proofs.lemmas.Option.{same_Some}
 use Rattle.std.proofs.lemmas.Slice.Eq.{bytes_eq-Decides}
 use Rattle.nr_base.specs.declared.desc.types.DescBase.TheVariants as desc_bases
 use Rattle.nr_base.specs.declared.desc.types.MethodDesc.{MethodDesc}
@@ -16,7 +16,7 @@ use Rattle.nr_prog.specs.declared.member.Code.{Code}
 use Rattle.nr_prog.specs.declared.member.Method.{Method}
 use Rattle.nr_prog.specs.declared.parts.ClassParts.{ClassParts}
 use Rattle.nr_prog.specs.BodyText.{BodyFor}
-use Rattle.nr_prog.specs.Members.{has_its_code, is_abstract, is_static}
+use Rattle.nr_prog.specs.Members.{has_its_code, is_abstract}
 use Rattle.nr_prog.specs.Pool.{text_at}
 use Rattle.nr_linked.specs.declared.program.built_in.BuiltIn.{BuiltIn}
 use Rattle.nr_linked.specs.declared.program.built_in.BuiltIn.TheVariants.{Object, Cloneable, Serializable, Restorable, Out}
@@ -24,7 +24,7 @@ use Rattle.nr_linked.specs.declared.program.kind.Kind.{Kind}
 use Rattle.nr_linked.specs.declared.program.tables.MethodInfo.{MethodInfo}
 use Rattle.nr_linked.specs.declared.program.tables.ProgramTables.{ProgramTables}
 use Rattle.nr_linked.specs.BuiltIns.{BuiltInMethod, built_in, built_in_class, number}
-use Rattle.nr_linked.specs.BuiltInTables.{built_in_method, built_ins}
+use Rattle.nr_linked.specs.BuiltInTables.{built_in_method}
 use Rattle.nr_linked.specs.Initialisers.{is_initialiser}
 use Rattle.nr_linked.specs.KindTexts.{kind_desc}
 use Rattle.nr_linked.specs.Linked.{first_built_in, is_loaded}
@@ -35,7 +35,7 @@ use Rattle.nr_linked.proofs.BuiltInEntries.{not_loaded}
 use Rattle.nr_linked.proofs.BuiltInLaws.{built_in_method_facts, built_in_result}
 use Rattle.nr_links.proofs.Descriptors.{one_list, one_method_desc, one_option}
 use Rattle.nr_links.proofs.MethodEntries.{LoadedMethod, method_cases}
-use Rattle.nr_linked.proofs.Elements.{passes_at, some_of}
+use Rattle.nr_linked.proofs.Elements.{some_of}
 use Rattle.nr_links.proofs.SlotFacts.{below_loaded}
 
 pub same_bytes : (a b : List ℕ) → IsTrue (bytes_eq a b) → a ≡ b

@@ -1,13 +1,10 @@
 -- The example's classes link to its tables.
-use Rattle.std.proofs.Common.{◌≡◌, ℕ, zero, suc, ◌+◌, true, false, List, [], ◌∷◌, refl, subst, inl, lit≤, arith, Bool, not, ◌&&◌}
+use Rattle.std.proofs.Common.{◌≡◌, ℕ, zero, suc, ◌+◌, false, List, [], ◌∷◌, refl, subst, inl, lit≤, arith, Bool, not, ◌&&◌}
 use Rattle.std.specs.Prelude.{Option, Some, None, All, IsTrue, slice_get, slice_index_or, codes, nat_lt}
-use Rattle.std.specs.List.{AllByRecursion, flat_map, list_all}
+use Rattle.std.specs.List.{list_all}
 use Rattle.std.proofs.lemmas.Bool.{and_parts, both_ways, ltb-true, not-true}
 use Rattle.std.proofs.lemmas.List.Elements.{All-nil}
 use Rattle.std.proofs.lemmas.Option.{same_Some}
-use Rattle.nr_base.specs.LegalNames.{class_from}
-use Rattle.nr_base.specs.ModifiedUtf8.{IsUnit, unit_bytes}
-use Rattle.nr_base.proofs.ClassNames.{class_found}
 use Rattle.nr_base.specs.Descs.{desc, method_desc}
 use Rattle.nr_base.specs.declared.desc.types.DescBase.TheVariants as desc_bases
 use Rattle.nr_base.specs.declared.desc.types.MethodDesc.{MethodDesc}

@@ -1,31 +1,19 @@
 -- The tables that classes link to have the facts that typing takes of them.
-use Rattle.std.proofs.Common.{◌≡◌, ℕ, ◌+◌, inl, inr, Bool, false, List, [], ◌∷◌, length, map, refl, sym, ap, subst, ◌∙◌, arith, not}
-use Rattle.std.specs.Prelude.{Option, Some, None, All, IsTrue, ◌==◌}
-use Rattle.std.specs.List.{AllZip, list_any}
+use Rattle.std.proofs.Common.{◌≡◌, ℕ, ◌+◌, inl, inr, List, [], length, refl, sym, ap, subst, ◌∙◌}
+use Rattle.std.specs.Prelude.{Option, Some, None, All, IsTrue}
+use Rattle.std.specs.List.{AllZip}
 use Rattle.std.specs.Option.{option_and_then, option_map_or}
-use Rattle.std.proofs.lemmas.Bool.{and_from, and_parts, eq-eqb, eqb-true, ne_eqb, not_from_false, or_cases, or_from, or_left, or_right}
-use Rattle.std.proofs.lemmas.Option.{same_Some}
 use Rattle.nr_prog.specs.declared.body.loaded.Loaded.{Loaded}
 use Rattle.nr_prog.specs.declared.body.whole.Body.{Body}
-use Rattle.nr_prog.specs.declared.member.Code.{Code}
-use Rattle.nr_prog.specs.declared.member.Method.{Method}
-use Rattle.nr_prog.specs.declared.parts.ClassParts.{ClassParts}
-use Rattle.nr_prog.specs.BodyText.{BodyFor, instrs}
-use Rattle.nr_prog.specs.Members.{has_flag, is_abstract}
-use Rattle.nr_linked.specs.declared.program.built_in.BuiltIn.{BuiltIn}
-use Rattle.nr_linked.specs.declared.program.built_in.BuiltIn.TheVariants.{Object, Cloneable, Throwable, ArithmeticException, ArrayStoreException, ClassCastException, NegativeArraySizeException, NullPointerException, ArrayIndexOutOfBoundsException, IncompatibleClassChangeError, AbstractMethodError, Serializable, RemoteFault}
-use Rattle.nr_linked.specs.declared.program.tables.ClassInfo.{ClassInfo}
 use Rattle.nr_linked.specs.declared.program.tables.MethodInfo.{MethodInfo}
 use Rattle.nr_linked.specs.declared.program.tables.ProgramTables.{ProgramTables}
 use Rattle.nr_linked.specs.declared.program.tables.Resolved.TheVariants as resolved
-use Rattle.nr_linked.specs.BuiltIns.{built_in, built_in_class, number}
-use Rattle.nr_linked.specs.BuiltInTables.{built_in_info, built_in_method, within_steps}
+use Rattle.nr_linked.specs.BuiltIns.{number}
 use Rattle.nr_linked.specs.Facts.{ProgramFacts}
-use Rattle.nr_linked.specs.Linked.{Linked, first_built_in, instrs_of, is_resolved_in}
-use Rattle.nr_linked.specs.Programs.{class_at, is_interface, method_at}
+use Rattle.nr_linked.specs.Linked.{first_built_in, instrs_of, is_resolved_in}
+use Rattle.nr_linked.specs.Programs.{method_at}
 use Rattle.nr_linked.specs.Sites.{Site, site_among, site_at}
-use Rattle.nr_linked.specs.Subtypes.{admits_any, is_above}
-use Rattle.nr_linked.specs.TypingFacts.{SiteFacts, TypingFacts, is_makeable, is_thrown}
+use Rattle.nr_linked.specs.TypingFacts.{SiteFacts, TypingFacts}
 use Rattle.nr_links.specs.Found.{IsCallFound, IsFound}
 use Rattle.nr_links.specs.Links.{IsDecoded, Links}
 use Rattle.nr_linked.proofs.AnyReferences.{any_up}
@@ -37,12 +25,11 @@ use Rattle.nr_links.proofs.Instructions.{found_at, passes_found, row_listed, sha
 use Rattle.nr_links.proofs.LaidOut.{laid_out, text_of_body}
 use Rattle.nr_links.proofs.Suits.{suited}
 use Rattle.nr_links.proofs.MethodEntries.{LoadedMethod, method_cases}
-use Rattle.nr_linked.proofs.Elements.{passing}
 use Rattle.nr_links.proofs.Selecting.{selects}
 use Rattle.nr_linked.proofs.Declaring.{own_above}
 use Rattle.nr_links.proofs.SiteFacts.{called, constant, dimensions, elements, kind_itself, made}
 use Rattle.nr_links.proofs.SlotFacts.{declared_slot, inherited, slotted}
-use Rattle.nr_linked.proofs.Ascents.{above_above, entry_of_above, itself_above, super_above, up}
+use Rattle.nr_linked.proofs.Ascents.{above_above, entry_of_above, super_above, up}
 
 -- ---- sites
 

@@ -1,18 +1,15 @@
 -- The method that is selected for a call.
-use Rattle.std.proofs.Common.{◌≡◌, ℕ, Bool, true, false, List, [], find, cond, refl, sym, ap, subst, ◌∙◌, not}
-use Rattle.std.specs.Prelude.{Option, Some, None, All, IsTrue, slice_get, ◌==◌, if◌then◌else◌}
-use Rattle.std.specs.List.{range_with_len}
-use Rattle.std.specs.Option.{option_and_then, option_map_or}
+use Rattle.std.proofs.Common.{◌≡◌, ℕ, Bool, true, false, List, find, cond, sym, ap, subst, ◌∙◌, not}
+use Rattle.std.specs.Prelude.{Option, Some, None, All, IsTrue, if◌then◌else◌}
+use Rattle.std.specs.Option.{option_and_then}
 use Rattle.std.specs.Str.{bytes_eq}
-use Rattle.std.proofs.lemmas.Bool.{and_parts, eqb-true}
+use Rattle.std.proofs.lemmas.Bool.{and_parts}
 use Rattle.std.proofs.lemmas.Option.{same_Some}
 use Rattle.nr_prog.specs.declared.body.loaded.Loaded.{Loaded}
 use Rattle.nr_prog.specs.Members.{is_static}
-use Rattle.nr_linked.specs.declared.program.tables.ClassInfo.{ClassInfo}
 use Rattle.nr_linked.specs.declared.program.tables.MethodInfo.{MethodInfo}
 use Rattle.nr_linked.specs.declared.program.tables.ProgramTables.{ProgramTables}
-use Rattle.nr_linked.specs.Linked.{Linked, is_method_of}
-use Rattle.nr_linked.specs.Programs.{class_at, method_at, methods_of, superclasses}
+use Rattle.nr_linked.specs.Programs.{method_at, methods_of, superclasses}
 use Rattle.nr_linked.specs.Selection.{can_select, first_selected, has_body, is_called, is_private, is_selectable, methods_upward, selected, with_body}
 use Rattle.nr_linked.specs.Subtypes.{is_above}
 use Rattle.nr_linked.specs.TypingFacts.{Selected}
@@ -20,7 +17,7 @@ use Rattle.nr_links.specs.Links.{IsDecoded, Links}
 use Rattle.nr_links.proofs.Described.{same_bytes, same_signature}
 use Rattle.nr_linked.proofs.Declaring.{held}
 use Rattle.nr_linked.proofs.Elements.{found, get_flat, passing}
-use Rattle.nr_linked.proofs.Ascents.{down, has_entry, itself_above, superclass_above}
+use Rattle.nr_linked.proofs.Ascents.{down, has_entry, superclass_above}
 
 -- ---- what a selection finds
 

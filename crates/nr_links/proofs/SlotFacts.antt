@@ -1,10 +1,10 @@
 -- The slots of classes, in the tables that classes link to.
 use Rattle.std.proofs.Common.{◌≡◌, ℕ, zero, suc, ◌<◌, ◌⊎◌, inl, inr, Bool, true, false, List, [], ◌∷◌, ◌++◌, length, map, refl, sym, ap, subst, ◌∙◌, arith, not, cond, ◌||◌}
-use Rattle.std.specs.Prelude.{Option, Some, None, IfSome, IsTrue, Contains, slice_get, ◌==◌, is_none}
+use Rattle.std.specs.Prelude.{Option, Some, None, IfSome, IsTrue, Contains, slice_get, ◌==◌}
 use Rattle.std.specs.List.{filter, list_all, list_any}
 use Rattle.std.specs.Option.{option_and_then, option_map_or}
-use Rattle.std.proofs.lemmas.Bool.{and_parts, eqb-true, eq-eqb, both_ways, cases_Bool, false_from_ne_true, ltb-true, lt-ltb, le-ltb, or_cases, or_left, or_right}
-use Rattle.std.proofs.lemmas.Option.{same_Some, slice_get_within}
+use Rattle.std.proofs.lemmas.Bool.{and_parts, eqb-true, both_ways, cases_Bool, false_from_ne_true, ltb-true, lt-ltb, or_left, or_right}
+use Rattle.std.proofs.lemmas.Option.{slice_get_within}
 use Rattle.nr_prog.specs.declared.body.loaded.Loaded.{Loaded}
 use Rattle.nr_prog.specs.declared.member.Field.{Field}
 use Rattle.nr_linked.specs.declared.program.built_in.BuiltIn.{BuiltIn}
@@ -13,9 +13,8 @@ use Rattle.nr_linked.specs.declared.program.tables.ClassInfo.{ClassInfo}
 use Rattle.nr_linked.specs.declared.program.tables.ProgramTables.{ProgramTables}
 use Rattle.nr_linked.specs.declared.program.tables.SlotInfo.{SlotInfo}
 use Rattle.nr_prog.specs.Members.{is_static}
-use Rattle.nr_linked.specs.BuiltIns.{built_in, built_in_class}
-use Rattle.nr_linked.specs.BuiltInTables.{built_in_info}
-use Rattle.nr_linked.specs.Linked.{IsReadAs, Linked, first_built_in, inherited_slots, is_class_in, is_loaded, is_super_in, own_slots, slot_texts, field_texts}
+use Rattle.nr_linked.specs.BuiltIns.{built_in}
+use Rattle.nr_linked.specs.Linked.{IsReadAs, first_built_in, inherited_slots, is_loaded, own_slots, slot_texts, field_texts}
 use Rattle.nr_linked.specs.Programs.{class_at, is_interface, super_of, upward}
 use Rattle.nr_linked.specs.Slots.{slots_of}
 use Rattle.nr_linked.specs.Subtypes.{Above, IsDirectlyAbove, admits_any, further, is_above, itself}

@@ -39,7 +39,7 @@ use Rattle.nr_links.proofs.MethodEntries.{LoadedMethod, method_cases}
 use Rattle.nr_linked.proofs.Elements.{get_below}
 use Rattle.nr_linked.specs.Suited.{is_one, has_number, is_increment, is_slot, is_method, is_element, is_kind, makes_array, can_widen, is_wide, suits, is_suited, IsSuited}
 use Rattle.nr_linked.proofs.BuiltInLaws.{no_code}
-use Rattle.nr_links.proofs.LaidOut.{of_code, text_of_body}
+use Rattle.nr_links.proofs.LaidOut.{text_of_body}
 use Rattle.nr_links.proofs.SiteFacts.{elements}
 
 implied : (b c : Bool) → (not b || c) ≡ true → b ≡ true → c ≡ true
