@@ -58,11 +58,7 @@ fn is_initialiser(class: &Class, method: &Method) -> bool
     }
 }
 
-fn this_type(
-    class: &Class,
-    method: &Method,
-    this: &Shared<Desc>,
-) -> Result<MapType, CodeFault>
+fn this_type(class: &Class, method: &Method, this: &Shared<Desc>) -> Result<MapType, CodeFault>
     ensures kind { IfOk result (λ kind. kind ≡ this_type_of class.now method.now this.now) }
     ensures err { IsOkUnless result CodeFault.NoMemory }
 {

@@ -81,13 +81,7 @@ fn has_in_profile(class: &Class, family: Family, index: u16) -> bool
 }
 
 #[tactic(auto, unfolding(crate::specs::OperandReading::checked_at, nr_base::specs::Reader::bind, nr_base::specs::Reader::pure, nr_base::specs::Reader::refuse, nr_base::specs::Reader::choose, nr_base::specs::Reader::from, nr_base::specs::Reader::with_fault))]
-fn checked(
-    class: &Class,
-    row: &Row,
-    at: u32,
-    index: u16,
-    cur: &mut Cur,
-) -> Result<Args, CodeFault>
+fn checked(class: &Class, row: &Row, at: u32, index: u16, cur: &mut Cur) -> Result<Args, CodeFault>
     ensures { Gives is_free result cur.new (checked_at class.now.pool row.now at index cur.old) }
 {
     if !can_name(class, row, index) {
@@ -101,12 +95,7 @@ fn checked(
 
 /// An index of one byte.
 #[tactic(auto, unfolding(crate::specs::OperandReading::index_at, nr_base::specs::Reader::bind, nr_base::specs::Reader::pure, nr_base::specs::Reader::refuse, nr_base::specs::Reader::choose, nr_base::specs::Reader::from, nr_base::specs::Reader::with_fault))]
-pub fn read_short_index(
-    class: &Class,
-    row: &Row,
-    at: u32,
-    cur: &mut Cur,
-) -> Result<Args, CodeFault>
+pub fn read_short_index(class: &Class, row: &Row, at: u32, cur: &mut Cur) -> Result<Args, CodeFault>
     ensures { Gives is_free result cur.new (index_at w8 class.now.pool row.now at cur.old) }
 {
     let index = read_u8(cur, at)?;
@@ -115,12 +104,7 @@ pub fn read_short_index(
 
 /// An index of two bytes.
 #[tactic(auto, unfolding(crate::specs::OperandReading::index_at, nr_base::specs::Reader::bind, nr_base::specs::Reader::pure, nr_base::specs::Reader::refuse, nr_base::specs::Reader::choose, nr_base::specs::Reader::from, nr_base::specs::Reader::with_fault))]
-pub fn read_index(
-    class: &Class,
-    row: &Row,
-    at: u32,
-    cur: &mut Cur,
-) -> Result<Args, CodeFault>
+pub fn read_index(class: &Class, row: &Row, at: u32, cur: &mut Cur) -> Result<Args, CodeFault>
     ensures { Gives is_free result cur.new (index_at w16 class.now.pool row.now at cur.old) }
 {
     let index = read_u16(cur, at)?;
@@ -129,11 +113,7 @@ pub fn read_index(
 
 /// The operands of invokeinterface.
 #[tactic(auto, unfolding(crate::specs::OperandReading::interface_at, nr_base::specs::Reader::bind, nr_base::specs::Reader::pure, nr_base::specs::Reader::refuse, nr_base::specs::Reader::choose, nr_base::specs::Reader::from, nr_base::specs::Reader::with_fault))]
-pub fn read_interface(
-    class: &Class,
-    at: u32,
-    cur: &mut Cur,
-) -> Result<Args, CodeFault>
+pub fn read_interface(class: &Class, at: u32, cur: &mut Cur) -> Result<Args, CodeFault>
     ensures { Gives is_free result cur.new (interface_at class.now.pool at cur.old) }
 {
     let index = read_u16(cur, at)?;
