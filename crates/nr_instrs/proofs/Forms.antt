@@ -1,6 +1,6 @@
 -- What the texts that entries name spell, as a class keeps it, tells each test.
-use Rattle.std.proofs.Common.{◌≡◌, ℕ, ◌+◌, Bool, true, false, not, ◌&&◌, List, Option, Some, None, Result, Ok, Err, refl, sym, ap, ◌∙◌}
-use Rattle.std.specs.Option.{option_map, option_map_or}
+use Rattle.std.proofs.Common.{◌≡◌, ℕ, Bool, false, not, ◌&&◌, List, Option, Some, None, Result, Ok, Err, refl, sym, ap, ◌∙◌}
+use Rattle.std.specs.Option.{option_map_or}
 use Rattle.nr_base.specs.Names.{is_name}
 use Rattle.nr_base.specs.DescReading.{desc_of, method_of}
 use Rattle.nr_base.specs.declared.desc.fault.DescFault.{DescFault}

@@ -1,5 +1,5 @@
 -- The same tests by what texts spell, as a class keeps it for each text.
-use Rattle.std.specs.Prelude.{ℕ, ◌+◌, List, Bool, false, not, ◌&&◌, ◌==◌, nat_le, Option, Some, None}
+use Rattle.std.specs.Prelude.{ℕ, ◌+◌, List, Bool, false, ◌&&◌, ◌==◌, nat_le, Option, Some, None}
 use Rattle.std.specs.Option.{option_map_or}
 use Rattle.nr_prog.specs.declared.pool.PoolEntry.{PoolEntry}
 use Rattle.nr_prog.specs.declared.pool.PoolEntry.TheVariants.{Class, NameAndType}

@@ -1,5 +1,5 @@
 -- What indices of the constant pool name, as tests by reading: they tell the first fault.
-use Rattle.std.specs.Prelude.{ℕ, ◌+◌, List, Bool, true, false, not, ◌&&◌, ◌==◌, ◌||◌, nat_le, Option, Some, None, Result, Ok, Err, if◌then◌else◌}
+use Rattle.std.specs.Prelude.{ℕ, ◌+◌, List, Bool, true, false, not, ◌&&◌, ◌==◌, ◌||◌, nat_le, Option, None, Result, Ok, Err, if◌then◌else◌}
 use Rattle.std.specs.Option.{option_map_or}
 use Rattle.nr_base.specs.Names.{is_name}
 use Rattle.nr_base.specs.Descs.{slots}
