@@ -1,5 +1,5 @@
 -- What stands above a class or an interface to which any reference goes: only such.
-use Rattle.std.proofs.Common.{◌≡◌, ℕ, ◌⊎◌, inl, inr, Bool, true, false, List, [], ◌∷◌, refl, sym, subst, ◌∙◌, arith, not, ◌||◌}
+use Rattle.std.proofs.Common.{◌≡◌, ℕ, ◌⊎◌, inl, inr, Bool, true, false, [], refl, sym, subst, ◌∙◌, arith, not}
 use Rattle.std.specs.Prelude.{Option, Some, None, IsTrue, Contains, ◌==◌, is_none}
 use Rattle.std.specs.Option.{option_map_or}
 use Rattle.std.proofs.lemmas.Bool.{and_parts, eqb-true, eq-eqb, both_ways, cases_Bool, or_cases, or_left, or_right}

@@ -8,7 +8,7 @@ use Rattle.std.proofs.lemmas.Bool.{and_from, and_parts, both_ways, eq-eqb, eqb-t
 use Rattle.std.proofs.lemmas.Option.{get_or_from_slice_get, same_Some, slice_get_within}
 use Rattle.nr_prog.specs.Members.{has_flag, is_abstract, is_static}
 use Rattle.nr_linked.specs.declared.program.built_in.BuiltIn.{BuiltIn}
-use Rattle.nr_linked.specs.declared.program.built_in.BuiltIn.TheVariants.{Object, Cloneable, Throwable, RuntimeException, ArithmeticException, ArrayStoreException, ClassCastException, NegativeArraySizeException, NullPointerException, ArrayIndexOutOfBoundsException, IncompatibleClassChangeError, AbstractMethodError, Serializable, Out, RemoteFault}
+use Rattle.nr_linked.specs.declared.program.built_in.BuiltIn.TheVariants.{Object, Cloneable, Throwable, ArithmeticException, ArrayStoreException, ClassCastException, NegativeArraySizeException, NullPointerException, ArrayIndexOutOfBoundsException, IncompatibleClassChangeError, AbstractMethodError, Serializable, Out, RemoteFault}
 use Rattle.nr_linked.specs.declared.program.kind.Kind.{Kind}
 use Rattle.nr_linked.specs.declared.program.tables.ClassInfo.{ClassInfo}
 use Rattle.nr_linked.specs.declared.program.tables.ProgramTables.{ProgramTables}

@@ -1,5 +1,5 @@
 -- The texts of the built-in classes and the bounds of their methods.
-use Rattle.std.proofs.Common.{◌≡◌, ℕ, ◌<◌, ◌≤◌, Bool, false, length, refl, arith, ◌&&◌}
+use Rattle.std.proofs.Common.{◌≡◌, ℕ, Bool, false, length, refl, arith, ◌&&◌}
 use Rattle.std.specs.Prelude.{Some, IsTrue, slice_get, nat_le, nat_lt}
 use Rattle.std.specs.List.{list_all}
 use Rattle.std.proofs.lemmas.Bool.{and_parts, leb-true, ltb-true}

@@ -1,34 +1,25 @@
 -- The program of the built-in classes alone keeps all that a program keeps.
-use Rattle.std.proofs.Common.{◌≡◌, ℕ, ◌+◌, ◌<◌, ◌≤◌, Bool, true, false, List, [], ◌∷◌, length, refl, sym, ap, subst, ◌∙◌, arith, ◌&&◌, lit<}
-use Rattle.std.specs.Prelude.{Option, Some, None, All, IsTrue, slice_get, is_some, nat_le, nat_lt, if◌then◌else◌}
-use Rattle.std.specs.List.{list_all}
+use Rattle.std.proofs.Common.{◌≡◌, ℕ, ◌+◌, ◌≤◌, Bool, true, false, refl, sym, ap, subst, ◌∙◌, arith}
+use Rattle.std.specs.Prelude.{Option, Some, None, slice_get, is_some, if◌then◌else◌}
 use Rattle.std.specs.Option.{option_map_or, option_and_then}
-use Rattle.std.proofs.lemmas.Bool.{and_parts, le-ltb, leb-true, ltb-true}
-use Rattle.nr_base.specs.LegalNames.{class_from}
+use Rattle.std.proofs.lemmas.Bool.{le-ltb}
 use Rattle.nr_prog.specs.declared.body.whole.Body.{Body}
-use Rattle.nr_prog.specs.Members.{is_static}
-use Rattle.nr_linked.specs.declared.program.built_in.BuiltIn.{BuiltIn}
-use Rattle.nr_linked.specs.declared.program.tables.ClassInfo.{ClassInfo}
 use Rattle.nr_linked.specs.declared.program.tables.MethodInfo.{MethodInfo}
-use Rattle.nr_linked.specs.declared.program.tables.ProgramTables.{ProgramTables}
 use Rattle.nr_linked.specs.declared.program.tables.SlotInfo.{SlotInfo}
-use Rattle.nr_linked.specs.BuiltIns.{BuiltInMethod, built_in_class, number}
-use Rattle.nr_linked.specs.BuiltInTables.{built_in_info, built_in_infos, built_in_method, built_in_methods, built_in_tables, built_ins}
+use Rattle.nr_linked.specs.BuiltIns.{built_in_class, number}
+use Rattle.nr_linked.specs.BuiltInTables.{built_in_infos, built_in_methods, built_in_tables, built_ins}
 use Rattle.nr_linked.specs.Facts.{ClassTexts, MethodBounds, ProgramFacts}
-use Rattle.nr_linked.specs.Linked.{first_built_in, first_built_in_method, handlers_of, is_loaded}
-use Rattle.nr_linked.specs.Programs.{class_at, method_at}
-use Rattle.nr_linked.specs.Selection.{has_body, is_private, selected, with_body, first_selected}
+use Rattle.nr_linked.specs.Linked.{first_built_in, first_built_in_method, is_loaded}
+use Rattle.nr_linked.specs.Programs.{method_at}
+use Rattle.nr_linked.specs.Selection.{has_body, selected, with_body, first_selected}
 use Rattle.nr_linked.specs.Sites.{Site, site_at, site_among}
 use Rattle.nr_linked.specs.Slots.{slots_of}
-use Rattle.nr_linked.specs.Subtypes.{is_above}
 use Rattle.nr_linked.specs.TypingFacts.{BuiltInFacts, TypingFacts}
 use Rattle.nr_linked.proofs.Ascents.{above_above, super_above, up}
 use Rattle.nr_linked.proofs.AnyReferences.{any_up}
-use Rattle.nr_linked.proofs.BuiltInEntries.{BuiltInEntry, info_of, of_built_in, of_built_in_method, on_all}
+use Rattle.nr_linked.proofs.BuiltInEntries.{BuiltInEntry, of_built_in, of_built_in_method}
 use Rattle.nr_linked.proofs.BuiltInTexts.{built_in_bounds, built_in_texts}
 use Rattle.nr_linked.proofs.BuiltInLaws.{built_in_method_facts, cloneable, makeable, no_built_in_slots, no_code, serializable, throwable, thrown}
-use Rattle.nr_linked.proofs.Elements.{passes_at}
-use Rattle.nr_linked.proofs.LegalTexts.{is_plain, legal}
 use Rattle.nr_linked.proofs.Witness.{linked}
 
 -- ---- no class was loaded
