@@ -32,7 +32,7 @@ use Rattle.nr_links.specs.Entries.{IsCaught, IsFrameOf, IsMethodAs, map_type}
 use Rattle.nr_links.specs.Found.{IsFound}
 use Rattle.nr_links.specs.Named.{NamesKind}
 use Rattle.nr_links.proofs.Instructions.{HasText}
-use Rattle.nr_links.proofs.Places.{some_of}
+use Rattle.nr_linked.proofs.Elements.{some_of}
 use Rattle.nr_linkrules.specs.declared.fault.LinkFault.TheVariants as faults
 use Rattle.nr_linkrules.specs.ClassRules.{base_fault, known_fault}
 use Rattle.nr_linkrules.specs.Completion.{caught, completed, frame_of, kind_or_none, or_nothing, type_of, types_of}

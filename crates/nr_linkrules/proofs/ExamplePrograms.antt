@@ -9,7 +9,7 @@ use Rattle.nr_prog.specs.BodyNames.{class_text_at, desc_text_at}
 use Rattle.nr_prog.specs.LegalTests.{is_class_text}
 use Rattle.nr_prog.specs.Members.{spells, is_spelled, is_in}
 use Rattle.nr_prog.specs.Pool.{text_at}
-use Rattle.nr_instrs.specs.NameTests.{class_desc}
+use Rattle.nr_prog.specs.TextForms.{class_desc}
 use Rattle.nr_linked.specs.BuiltIns.{built_in_class}
 use Rattle.nr_linked.specs.BuiltInTables.{built_in_info, built_in_infos, built_in_method, built_in_methods}
 use Rattle.nr_links.specs.Example.{loaded, tables}

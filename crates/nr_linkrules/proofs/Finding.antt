@@ -28,8 +28,8 @@ use Rattle.nr_linked.specs.Subtypes.{Above, is_above}
 use Rattle.nr_links.specs.Found.{CanCall, IsCallFound, IsConstantFound, IsFieldFound, IsFound, IsFoundAt, IsFoundBy, IsKindFound, IsMadeFound, IsMethodFound, IsSlotFound, index_in}
 use Rattle.nr_links.specs.Resolution.{class_with_members, classes_for, is_called_at, resolved_method, resolved_slot}
 use Rattle.nr_links.proofs.Described.{same_bytes}
-use Rattle.nr_links.proofs.Places.{found}
-use Rattle.nr_links.proofs.Upward.{down, up}
+use Rattle.nr_linked.proofs.Elements.{found}
+use Rattle.nr_linked.proofs.Ascents.{down, up}
 use Rattle.nr_linkrules.specs.declared.fault.LinkFault.{LinkFault}
 use Rattle.nr_linkrules.specs.Outline.{some_text}
 use Rattle.nr_linkrules.specs.SiteRules.{Finding, Place, by_member, callable, can_call, constant_found, found_by, instr_found, kind_at, made_found, method_found, method_in, method_of, on_entry, on_member, is_same, slot_found, slot_in}

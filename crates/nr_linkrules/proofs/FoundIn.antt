@@ -12,7 +12,7 @@ use Rattle.nr_prog.specs.declared.pool.PoolEntry.{PoolEntry}
 use Rattle.nr_prog.specs.declared.pool.PoolEntry.TheVariants.{FieldRef, Integer, InterfaceMethodRef, Long, MethodRef}
 use Rattle.nr_prog.specs.Pool.{entry_at}
 use Rattle.nr_instrs.specs.Checks.{then_on}
-use Rattle.nr_instrs.specs.NameTests.{class_desc}
+use Rattle.nr_prog.specs.TextForms.{class_desc}
 use Rattle.nr_linked.specs.declared.program.built_in.BuiltIn.TheVariants.{Object}
 use Rattle.nr_linked.specs.declared.program.kind.Kind.{Kind}
 use Rattle.nr_linked.specs.declared.program.tables.ProgramTables.{ProgramTables}
@@ -27,7 +27,7 @@ use Rattle.nr_linked.specs.Slots.{slots_of}
 use Rattle.nr_linked.specs.TypingFacts.{is_makeable}
 use Rattle.nr_links.specs.Found.{index_in}
 use Rattle.nr_links.specs.Resolution.{class_with_members, field_class, is_slot_of, resolved_slot, slot_of_field}
-use Rattle.nr_links.proofs.Places.{passing}
+use Rattle.nr_linked.proofs.Elements.{passing}
 use Rattle.nr_linkrules.specs.declared.fault.LinkFault.{LinkFault}
 use Rattle.nr_linkrules.specs.Layout.{kind_of}
 use Rattle.nr_linkrules.specs.SiteRules.{Finding, Place, Search, by_member, callable, can_call, class_bytes, constant_found, found_by, instr_found, kind_at, kind_named, made_found, method_found, method_in, method_of, no_field, no_method, on_entry, on_member, or_fault, slot_found, slot_in}

@@ -19,7 +19,7 @@ use Rattle.nr_linked.specs.Programs.{class_at, method_at}
 use Rattle.nr_links.specs.Found.{IsCallFound, IsSlotFound}
 use Rattle.nr_links.specs.Named.{NamesMember, name_text_at}
 use Rattle.nr_links.specs.Resolution.{class_with_members, resolved_method, resolved_slot}
-use Rattle.nr_links.proofs.Places.{passing}
+use Rattle.nr_linked.proofs.Elements.{passing}
 use Rattle.nr_linkrules.specs.declared.fault.LinkFault.{LinkFault}
 use Rattle.nr_linkrules.specs.Outline.{some_text}
 use Rattle.nr_linkrules.specs.SiteRules.{Finding, Place, callable, can_call, kind_at, method_found, method_in, method_of, on_member, or_fault, slot_found, slot_in}

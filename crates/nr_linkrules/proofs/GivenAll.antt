@@ -35,7 +35,7 @@ use Rattle.nr_linked.specs.TypingFacts.{is_makeable, is_shaped}
 use Rattle.nr_links.specs.Found.{IsConstantFound, IsFieldFound, IsFound, IsFoundAt, IsFoundBy, IsKindFound, IsMadeFound, IsMethodFound, index_in}
 use Rattle.nr_links.specs.Named.{NamesKind}
 use Rattle.nr_links.proofs.Instructions.{HasText, counts, dims_shape, mul_row, row_listed, shaped, uses}
-use Rattle.nr_links.proofs.Places.{some_of}
+use Rattle.nr_linked.proofs.Elements.{some_of}
 use Rattle.nr_linkrules.specs.declared.fault.LinkFault.{LinkFault}
 use Rattle.nr_linkrules.specs.SiteRules.{Finding, Place, by_member, constant_found, found_by, instr_found, kind_at, made_found, method_found, slot_found}
 use Rattle.nr_linkrules.proofs.Given.{call_is, first_then, slot_is}

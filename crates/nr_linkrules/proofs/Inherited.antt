@@ -7,7 +7,7 @@ use Rattle.std.proofs.lemmas.List.{reverse-append}
 use Rattle.nr_linked.specs.declared.program.tables.ProgramTables.{ProgramTables}
 use Rattle.nr_linked.specs.Programs.{class_at, super_of, superclasses, upward}
 use Rattle.nr_links.proofs.Reaching.{direct_step}
-use Rattle.nr_links.proofs.Upward.{super_step}
+use Rattle.nr_linked.proofs.Ascents.{super_step}
 use Rattle.nr_linkrules.specs.ClassRules.{is_above_itself}
 use Rattle.nr_linkrules.specs.Layout.{slots_declared, slots_in}
 use Rattle.nr_linkrules.specs.Reaches.{HasSteps}

@@ -16,9 +16,9 @@ use Rattle.nr_linked.proofs.Witness as witness
 use Rattle.nr_links.specs.Entries.{method_count}
 use Rattle.nr_links.specs.Links.{IsDecoded}
 use Rattle.nr_links.specs.Rules.{is_reserved}
-use Rattle.nr_links.proofs.BuiltInEntries.{on_all}
+use Rattle.nr_linked.proofs.BuiltInEntries.{on_all}
 use Rattle.nr_links.proofs.Described.{same_bytes}
-use Rattle.nr_links.proofs.Places.{get_mapped}
+use Rattle.nr_linked.proofs.Elements.{get_mapped}
 use Rattle.nr_linkrules.specs.ClassRules.{above_fault, cycle_fault, list_fault, members_fault}
 use Rattle.nr_linkrules.specs.Faults.{first_of}
 use Rattle.nr_linkrules.specs.LinkFaults.{Rule, classes_fault, code_faults, first_class_fault, link_fault, on_loaded}

@@ -21,7 +21,7 @@ use Rattle.nr_linked.specs.Subtypes.{Above, further, is_above, itself}
 use Rattle.nr_links.specs.Entries.{method_count}
 use Rattle.nr_links.specs.Rules.{is_final_class}
 use Rattle.nr_links.proofs.OneNames.{same_functions}
-use Rattle.nr_links.proofs.Places.{get_below}
+use Rattle.nr_linked.proofs.Elements.{get_below}
 use Rattle.nr_links.proofs.Reaching.{direct_step}
 use Rattle.nr_linkrules.specs.ClassRules.{above_fault, cycle_fault, has_final_above, has_kinds_above, is_above_itself, is_known, known_fault, named_above_fault, named_fault}
 use Rattle.nr_linkrules.specs.Faults.{first_of}

@@ -28,7 +28,7 @@ use Rattle.nr_linked.specs.Linked.{IsClassLinked, IsReadAs, Texts, is_kind_in, i
 use Rattle.nr_linked.specs.Programs.{class_at, method_at, methods_of}
 use Rattle.nr_links.specs.Entries.{method_count}
 use Rattle.nr_links.proofs.OneNames.{same_list}
-use Rattle.nr_links.proofs.Places.{get_below, get_range, range_at, some_of}
+use Rattle.nr_linked.proofs.Elements.{get_below, get_range, range_at, some_of}
 use Rattle.nr_linkrules.specs.Completion.{completed}
 use Rattle.nr_linkrules.specs.Layout.{slots_read}
 use Rattle.nr_linkrules.specs.LinkFaults.{link_fault}

@@ -44,7 +44,7 @@ use Rattle.nr_linked.specs.Selection.{is_called}
 use Rattle.nr_linked.specs.TypingFrames.{in_places}
 use Rattle.nr_links.specs.Entries.{method_count}
 use Rattle.nr_links.proofs.Described.{same_bytes}
-use Rattle.nr_links.proofs.Places.{get_below, get_mapped}
+use Rattle.nr_linked.proofs.Elements.{get_below, get_mapped}
 use Rattle.nr_linkrules.specs.declared.fault.LinkFault.{LinkFault}
 use Rattle.nr_linkrules.specs.ClassRules.{desc_fault, members_fault, method_fault, types_in}
 use Rattle.nr_linkrules.specs.Completion.{caught, completed, frame_of, kind_or_none, kinds_of, or_nothing, params_in, resolved_in, result_in, type_of, types_of}

@@ -15,7 +15,7 @@ use Rattle.nr_linked.specs.Programs.{class_at, method_at}
 use Rattle.nr_links.specs.Entries.{method_count}
 use Rattle.nr_links.proofs.MethodEntries.{Stands, stand}
 use Rattle.nr_links.proofs.OneNames.{same_list}
-use Rattle.nr_links.proofs.Places.{get_dropped}
+use Rattle.nr_linked.proofs.Elements.{get_dropped}
 use Rattle.nr_linkrules.specs.LinkFaults.{link_fault}
 use Rattle.nr_linkrules.specs.Readable.{IsReadable}
 use Rattle.nr_linkrules.proofs.Known as known
@@ -33,7 +33,7 @@ count_few [] all = omega arith
 count_few (l ∷ ls) all =
     let parts = all_parts IsReadable l ls all in
     let rest = count_few ls parts.1 in
-    let here = parts.0.bounds.methods in
+    let here = parts.0.decoded.bounds.methods in
     let sum = length-append l.«class».methods (flat_map (λ (l : Loaded). l.«class».methods) ls) in
     let product = suc-mul (length ls) 65536 in
     omega (arith, rest, here, sum, product)

@@ -38,7 +38,7 @@ use Rattle.nr_linked.specs.Linked.{field_texts, inherited_slots, is_kind_in, own
 use Rattle.nr_linked.specs.Programs.{class_at, super_of, superclasses, upward}
 use Rattle.nr_linked.specs.Slots.{slots_of}
 use Rattle.nr_links.specs.Entries.{method_count}
-use Rattle.nr_links.proofs.Places.{get_flat, get_mapped, some_of}
+use Rattle.nr_linked.proofs.Elements.{get_flat, get_mapped, some_of}
 use Rattle.nr_linkrules.specs.ClassRules.{base_fault, desc_fault, field_fault, members_fault, type_in}
 use Rattle.nr_linkrules.specs.Faults.{first_of}
 use Rattle.nr_linkrules.specs.Layout.{base_of, kind_of, kind_said, read_desc, slot_for, slot_of, slots_declared, slots_in, slots_read}
@@ -225,7 +225,7 @@ module _ (classes : List Loaded) (none : link_fault classes ≡ None) (all : All
 
   pub fields_known : (k : ℕ) (l : Loaded) → slice_get classes k ≡ Some l → All (FieldKnown l.«class».pool) l.«class».fields
   fields_known k l at i d lt =
-      let f = Rattle.nr_links.proofs.Places.get_below l.«class».fields i lt in
+      let f = Rattle.nr_linked.proofs.Elements.get_below l.«class».fields i lt in
       let here = get_or_from_slice_get l.«class».fields i f.0 d f.1 in
       subst (FieldKnown l.«class».pool) (sym here) (field_known l.«class».pool f.0
       (subst (IsFieldFormed l.«class».pool) here ((above.formed classes none all k l at).fields i d lt))

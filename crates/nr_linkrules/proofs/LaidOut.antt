@@ -28,11 +28,11 @@ use Rattle.nr_linked.specs.Programs.{class_at, super_of, upward}
 use Rattle.nr_linked.specs.Slots.{slots_of}
 use Rattle.nr_linked.specs.Subtypes.{Above, further, itself}
 use Rattle.nr_links.specs.Links.{Links}
-use Rattle.nr_links.proofs.BuiltInEntries.{info_of}
-use Rattle.nr_links.proofs.Listed.{is_listed}
+use Rattle.nr_linked.proofs.BuiltInEntries.{info_of}
+use Rattle.nr_linked.proofs.Listed.{is_listed}
 use Rattle.nr_links.proofs.OneClass.{SlotOk, one_rising}
 use Rattle.nr_links.proofs.OneNames.{same_functions, same_list}
-use Rattle.nr_links.proofs.Places.{get_below, get_dropped, passes_at}
+use Rattle.nr_linked.proofs.Elements.{get_below, get_dropped, passes_at}
 use Rattle.nr_links.proofs.Reaching.{direct_step}
 use Rattle.nr_links.proofs.SlotFacts.{LoadedEntry, entry_cases}
 use Rattle.nr_linkrules.specs.Layout.{kind_of, kind_said, laid_class, laid_out, numbered, read_desc, slot_for, slot_of, slots_declared, slots_in, slots_read, supers_in}

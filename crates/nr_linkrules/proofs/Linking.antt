@@ -24,9 +24,9 @@ use Rattle.nr_linked.specs.Subtypes.{Above, IsDirectlyAbove}
 use Rattle.nr_links.specs.Entries.{IsClassAs, IsMethodAs, is_rising, method_count}
 use Rattle.nr_links.specs.Links.{IsDecoded, Links}
 use Rattle.nr_links.specs.Rules.{KeepsRules, SaysKind, has_interface_members, is_final}
-use Rattle.nr_links.proofs.Listed.{is_listed}
+use Rattle.nr_linked.proofs.Listed.{is_listed}
 use Rattle.nr_links.proofs.OneMethod.{one_program}
-use Rattle.nr_links.proofs.Places.{found, get_below, is_some_and}
+use Rattle.nr_linked.proofs.Elements.{found, get_below, is_some_and}
 use Rattle.nr_links.proofs.Reaching.{direct_step}
 use Rattle.nr_linkrules.specs.declared.fault.LinkFault.TheVariants as faults
 use Rattle.nr_linkrules.specs.ClassRules.{has_final, has_final_over, hides_final, is_final_as, members_fault, method_name, override_fault}

@@ -5,7 +5,7 @@ use Rattle.std.specs.List.{list_any}
 use Rattle.std.specs.Option.{option_or}
 use Rattle.std.proofs.lemmas.Bool.{eq-eqb, or_cases, or_left, or_right}
 use Rattle.std.proofs.lemmas.Option.{same_Some}
-use Rattle.nr_links.proofs.Listed.{is_listed}
+use Rattle.nr_linked.proofs.Listed.{is_listed}
 use Rattle.nr_linkrules.specs.declared.fault.LinkFault.{LinkFault}
 use Rattle.nr_linkrules.specs.Faults.{first_numbered, first_of, unless}
 

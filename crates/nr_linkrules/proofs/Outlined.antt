@@ -22,7 +22,7 @@ use Rattle.nr_links.specs.Entries.{method_count}
 use Rattle.nr_links.specs.Links.{Links}
 use Rattle.nr_links.proofs.Descriptors.{name_of}
 use Rattle.nr_links.proofs.OneClass.{counted}
-use Rattle.nr_links.proofs.Places.{get_below, get_dropped, passing}
+use Rattle.nr_linked.proofs.Elements.{get_below, get_dropped, passing}
 use Rattle.nr_links.proofs.SlotFacts.{LoadedEntry, below_loaded, loaded_entry}
 use Rattle.nr_linkrules.specs.Outline.{bare_class, class_number, names_of, number_in, outline, outline_class, outline_classes, own_name, own_names, some_text}
 use Rattle.nr_linkrules.proofs.NameLaws.{known_by_texts}
@@ -103,7 +103,7 @@ module _ (classes : List Loaded) (P : ProgramTables) (links : Links classes P) w
     where
       front : (k : ℕ) (name : List ℕ) → slice_get (own_names classes) k ≡ Some name → slice_get (map (λ (e : ClassInfo). e.name) P.classes) k ≡ Some name
       front k name at =
-          let r = Rattle.nr_links.proofs.Places.get_mapped (λ (l : Loaded). own_name l.«class») classes k name at in
+          let r = Rattle.nr_linked.proofs.Elements.get_mapped (λ (l : Loaded). own_name l.«class») classes k name at in
           let a = at_loaded k r.0 r.1 in
           slice_get-map (λ (e : ClassInfo). e.name) P.classes k ∙ ap (option_map (λ (e : ClassInfo). e.name)) a.is ∙ ap (λ n. Some n) (own_name_is k r.0 a ∙ sym r.2)
 

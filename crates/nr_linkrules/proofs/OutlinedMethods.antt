@@ -18,7 +18,7 @@ use Rattle.nr_linked.specs.Programs.{method_at}
 use Rattle.nr_links.specs.Entries.{method_count}
 use Rattle.nr_links.specs.Links.{IsDecoded, Links}
 use Rattle.nr_links.proofs.MethodEntries.{Stands, method_from, stand}
-use Rattle.nr_links.proofs.Places.{get_below}
+use Rattle.nr_linked.proofs.Elements.{get_below}
 use Rattle.nr_linkrules.specs.Outline.{bare_method, outline, outline_method, outline_methods, some_text}
 use Rattle.nr_linkrules.proofs.Outlined.{first_method, loaded_count}
 use Rattle.nr_linkrules.proofs.Parts.{drop_map, get_back, get_front, map_parts, two_parts, zip_at, zip_length}

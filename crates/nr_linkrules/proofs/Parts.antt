@@ -5,7 +5,7 @@ use Rattle.std.specs.List.{zip}
 use Rattle.std.proofs.lemmas.Bool.{cases_lt}
 use Rattle.std.proofs.lemmas.Option.{same_Some}
 use Rattle.nr_links.proofs.OneNames.{same_list}
-use Rattle.nr_links.proofs.Places.{get_below, get_dropped}
+use Rattle.nr_linked.proofs.Elements.{get_below, get_dropped}
 
 -- ---- one behind the other
 

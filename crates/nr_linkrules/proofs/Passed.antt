@@ -22,9 +22,11 @@ use Rattle.nr_linked.specs.Linked.{is_class_in, is_loaded}
 use Rattle.nr_linked.specs.Programs.{class_at, class_named, is_interface}
 use Rattle.nr_links.specs.Links.{Links}
 use Rattle.nr_links.specs.Rules.{is_reserved}
-use Rattle.nr_links.proofs.Places.{get_mapped, passes_at}
+use Rattle.nr_linked.proofs.Elements.{get_mapped, passes_at}
 use Rattle.nr_links.proofs.Reaching.{step_direct}
-use Rattle.nr_links.proofs.SlotFacts.{LoadedEntry, below_loaded, loaded_entry, not_loaded, super_in}
+use Rattle.nr_links.proofs.SlotFacts.{LoadedEntry, below_loaded, loaded_entry}
+use Rattle.nr_linked.proofs.BuiltInEntries.{not_loaded}
+use Rattle.nr_linked.proofs.AnyReferences.{super_in}
 use Rattle.nr_linkrules.specs.ClassRules.{above_fault, cycle_fault, doubled_fault, has_final_above, has_kinds_above, is_above_itself, known_fault, limit_fault, list_fault, named_above_fault, named_fault, reserved_fault}
 use Rattle.nr_linkrules.specs.LinkFaults.{first_class_fault, on_loaded, Rule}
 use Rattle.nr_linkrules.specs.Outline.{bare_class, names_of, number_in, outline, own_name, own_names, some_text}

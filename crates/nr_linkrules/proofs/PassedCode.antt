@@ -28,10 +28,10 @@ use Rattle.nr_linked.specs.TypingFrames.{in_places}
 use Rattle.nr_links.specs.Entries.{IsCaught, IsFrameOf, map_type}
 use Rattle.nr_links.specs.Found.{IsFound}
 use Rattle.nr_links.specs.Links.{IsDecoded, Links}
-use Rattle.nr_links.proofs.BuiltInEntries.{BuiltInEntry}
+use Rattle.nr_linked.proofs.BuiltInEntries.{BuiltInEntry}
 use Rattle.nr_links.proofs.Descriptors.{name_of}
 use Rattle.nr_links.proofs.MethodEntries.{LoadedMethod, method_cases}
-use Rattle.nr_links.proofs.Places.{get_below, get_mapped, passes_at}
+use Rattle.nr_linked.proofs.Elements.{get_below, get_mapped, passes_at}
 use Rattle.nr_links.proofs.SlotFacts.{LoadedEntry, below_loaded, loaded_entry}
 use Rattle.nr_linkrules.specs.declared.fault.LinkFault.{LinkFault}
 use Rattle.nr_linkrules.specs.ClassRules.{base_fault, known_fault}

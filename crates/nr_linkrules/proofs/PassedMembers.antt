@@ -28,9 +28,9 @@ use Rattle.nr_linked.specs.Subtypes.{Above}
 use Rattle.nr_links.specs.Entries.{IsMethodAs}
 use Rattle.nr_links.specs.Links.{IsDecoded, Links}
 use Rattle.nr_links.specs.Rules.{SaysKind, has_interface_members, is_final}
-use Rattle.nr_links.proofs.Places.{get_below, get_mapped, get_range, some_of}
+use Rattle.nr_linked.proofs.Elements.{get_below, get_mapped, get_range, some_of}
 use Rattle.nr_links.proofs.MethodEntries.{method_from}
-use Rattle.nr_links.proofs.Selecting.{held}
+use Rattle.nr_linked.proofs.Declaring.{held}
 use Rattle.nr_links.proofs.SlotFacts.{LoadedEntry}
 use Rattle.nr_linkrules.specs.declared.fault.LinkFault.TheVariants as faults
 use Rattle.nr_linkrules.specs.ClassRules.{desc_fault, field_fault, has_final, has_final_over, hides_final, is_final_as, members_fault, method_fault, method_name, override_fault, type_in, types_in}

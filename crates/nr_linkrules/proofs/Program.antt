@@ -18,7 +18,7 @@ use Rattle.nr_linked.specs.Linked.{built_in_method_count, first_built_in, first_
 use Rattle.nr_linked.specs.Programs.{class_at, method_at}
 use Rattle.nr_links.specs.Entries.{method_count}
 use Rattle.nr_links.specs.Links.{IsDecoded}
-use Rattle.nr_links.proofs.Places.{get_below, get_dropped}
+use Rattle.nr_linked.proofs.Elements.{get_below, get_dropped}
 use Rattle.nr_linkrules.specs.Completion.{completed, linked_program}
 use Rattle.nr_linkrules.specs.Layout.{laid_class, laid_out, numbered, slots_in, supers_in}
 use Rattle.nr_linkrules.specs.Outline.{bare_class, bare_method, names_of, outline, outline_class, outline_classes, outline_method, outline_methods}
@@ -125,7 +125,7 @@ module _ (classes : List Loaded) where
   -- a built-in class stands there as it is
   unread : (a m j : ℕ) (e : ClassInfo) → slice_get (built_in_infos a m) j ≡ Some e → e.read ≡ None
   unfolding built_in_infos built_in_info
-  unread a m j e at = let r = Rattle.nr_links.proofs.Places.get_mapped (built_in_info a m) Rattle.nr_linked.specs.BuiltInTables.built_ins j e at in ap (λ (e : ClassInfo). e.read) r.2
+  unread a m j e at = let r = Rattle.nr_linked.proofs.Elements.get_mapped (built_in_info a m) Rattle.nr_linked.specs.BuiltInTables.built_ins j e at in ap (λ (e : ClassInfo). e.read) r.2
 
   laid_built_in : (c a m j : ℕ) (o : Option ClassInfo) → slice_get (built_in_infos a m) j ≡ o → option_map (laid_class O c) o ≡ o
   laid_built_in c a m j None at = refl

@@ -6,9 +6,9 @@ use Rattle.std.proofs.lemmas.Bool.{and_from, and_parts, both_ways, cases_Bool, e
 use Rattle.nr_linked.specs.declared.program.tables.ProgramTables.{ProgramTables}
 use Rattle.nr_linked.specs.Programs.{class_at, super_of, upward}
 use Rattle.nr_linked.specs.Subtypes.{Above, further, itself}
-use Rattle.nr_links.proofs.Listed.{is_listed}
+use Rattle.nr_linked.proofs.Listed.{is_listed}
 use Rattle.nr_links.proofs.Reaching.{direct_step}
-use Rattle.nr_links.proofs.Upward.{super_step}
+use Rattle.nr_linked.proofs.Ascents.{super_step}
 use Rattle.nr_linkrules.specs.ClassRules.{is_above_itself}
 use Rattle.nr_linkrules.specs.Reaches.{HasSteps, is_step, reaches, steps_up}
 use Rattle.nr_linkrules.proofs.Reached.{reaches_above}

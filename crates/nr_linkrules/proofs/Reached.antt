@@ -6,7 +6,7 @@ use Rattle.nr_linked.specs.declared.program.tables.ProgramTables.{ProgramTables}
 use Rattle.nr_linked.specs.Programs.{class_at}
 use Rattle.nr_linked.specs.Subtypes.{Above, further, itself}
 use Rattle.nr_links.proofs.Reaching.{direct_step, step_direct}
-use Rattle.nr_links.proofs.Upward.{above_trans, one_step}
+use Rattle.nr_linked.proofs.Ascents.{above_trans, one_step}
 use Rattle.nr_linkrules.specs.Reaches.{is_step, reaches, reaches_by}
 
 module _ (P : ProgramTables) where

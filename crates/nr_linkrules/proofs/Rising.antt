@@ -4,7 +4,7 @@ use Rattle.std.specs.Prelude.{IsTrue, ◌==◌, ◌||◌}
 use Rattle.std.specs.List.{filter, range_with_len}
 use Rattle.std.proofs.lemmas.Bool.{and_from, eq-eqb, eqb-true, lt-ltb, or_cases, or_left, or_right}
 use Rattle.nr_links.specs.Entries.{is_rising}
-use Rattle.nr_links.proofs.Listed.{is_listed}
+use Rattle.nr_linked.proofs.Listed.{is_listed}
 
 pub listed_range : (a n d : ℕ) → IsTrue (is_listed d (range_with_len a n)) → (a ≤ d) × (d < a + n)
 listed_range a zero d p = absurd cc

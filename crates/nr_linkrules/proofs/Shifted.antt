@@ -25,11 +25,11 @@ use Rattle.nr_linked.specs.Selection.{is_called}
 use Rattle.nr_linked.specs.Slots.{slots_of}
 use Rattle.nr_linked.specs.Subtypes.{Above, further, is_above, itself}
 use Rattle.nr_linked.proofs.Witness as witness
-use Rattle.nr_links.proofs.BuiltInEntries.{on_all}
-use Rattle.nr_links.proofs.Listed.{is_listed, listed_all}
-use Rattle.nr_links.proofs.Upward.{has_entry}
+use Rattle.nr_linked.proofs.BuiltInEntries.{on_all}
+use Rattle.nr_linked.proofs.Listed.{is_listed, listed_all}
+use Rattle.nr_linked.proofs.Ascents.{has_entry}
 use Rattle.nr_linkrules.proofs.Rising.{range_listed}
-use Rattle.nr_links.proofs.Places.{get_below, get_flat, get_mapped, passes_at}
+use Rattle.nr_linked.proofs.Elements.{get_below, get_flat, get_mapped, passes_at}
 use Rattle.nr_links.proofs.Reaching.{direct_step, step_direct}
 use Rattle.nr_linkrules.specs.Reaches.{is_step, steps_up}
 

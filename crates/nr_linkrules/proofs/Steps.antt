@@ -10,8 +10,8 @@ use Rattle.nr_linked.specs.declared.program.tables.ClassInfo.{ClassInfo}
 use Rattle.nr_linked.specs.declared.program.tables.ProgramTables.{ProgramTables}
 use Rattle.nr_linked.specs.Linked.{is_class_in, is_super_in}
 use Rattle.nr_linked.specs.Programs.{class_at, is_interface}
-use Rattle.nr_links.proofs.Listed.{is_listed, listed_all}
-use Rattle.nr_links.proofs.Places.{passing}
+use Rattle.nr_linked.proofs.Listed.{is_listed, listed_all}
+use Rattle.nr_linked.proofs.Elements.{passing}
 use Rattle.nr_linkrules.specs.Reaches.{HasSteps}
 
 pub face_within : (P : ProgramTables) (c : ℕ) → IsTrue (is_interface P c) → IsTrue (is_class_in P c)

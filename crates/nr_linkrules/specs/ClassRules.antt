@@ -23,7 +23,7 @@ use Rattle.nr_linked.specs.Selection.{is_selectable}
 use Rattle.nr_links.specs.Rules.{has_interface_members, is_class_initialiser, is_final, is_final_class, is_reserved}
 use Rattle.nr_linkrules.specs.declared.fault.LinkFault.{LinkFault}
 use Rattle.nr_linkrules.specs.declared.fault.LinkFault.TheVariants as faults
-use Rattle.nr_linkrules.specs.declared.fault.MethodName.{MethodName}
+use Rattle.nr_linked.specs.declared.program.method_name.MethodName.{MethodName}
 use Rattle.nr_linkrules.specs.Faults.{first_of, first_numbered, unless}
 use Rattle.nr_linkrules.specs.Outline.{own_name, own_names, some_text}
 use Rattle.nr_linkrules.specs.Reaches.{reaches, steps_up}

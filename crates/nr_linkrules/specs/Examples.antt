@@ -19,7 +19,7 @@ use Rattle.nr_linked.specs.declared.program.tables.ProgramTables.{ProgramTables}
 use Rattle.nr_links.specs.Example.{body_of, code_of, getfield, instr, return_}
 use Rattle.nr_linkrules.specs.declared.fault.LinkFault.{LinkFault}
 use Rattle.nr_linkrules.specs.declared.fault.LinkFault.TheVariants as faults
-use Rattle.nr_linkrules.specs.declared.fault.MethodName.{MethodName}
+use Rattle.nr_linked.specs.declared.program.method_name.MethodName.{MethodName}
 
 abbrev pub object : List ℕ
 object = codes "java/lang/Object"

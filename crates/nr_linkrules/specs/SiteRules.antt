@@ -23,7 +23,7 @@ use Rattle.nr_prog.specs.BodyNames.{class_text_at, desc_text_at}
 use Rattle.nr_prog.specs.Members.{is_static}
 use Rattle.nr_prog.specs.Pool.{entry_at}
 use Rattle.nr_instrs.specs.Checks.{then_on}
-use Rattle.nr_instrs.specs.NameTests.{class_desc}
+use Rattle.nr_prog.specs.TextForms.{class_desc}
 use Rattle.nr_linked.specs.Initialisers.{is_initialiser}
 use Rattle.nr_linked.specs.KindTexts.{class_name}
 use Rattle.nr_linked.specs.Kinds.{class_in, is_array}
@@ -36,7 +36,7 @@ use Rattle.nr_links.specs.Named.{name_text_at}
 use Rattle.nr_links.specs.Resolution.{class_with_members, resolved_method, resolved_slot}
 use Rattle.nr_linkrules.specs.declared.fault.LinkFault.{LinkFault}
 use Rattle.nr_linkrules.specs.declared.fault.LinkFault.TheVariants as faults
-use Rattle.nr_linkrules.specs.declared.fault.MethodName.{MethodName}
+use Rattle.nr_linked.specs.declared.program.method_name.MethodName.{MethodName}
 use Rattle.nr_linkrules.specs.ClassRules.{desc_fault, method_name}
 use Rattle.nr_linkrules.specs.Faults.{first_of}
 use Rattle.nr_linkrules.specs.Layout.{kind_of}

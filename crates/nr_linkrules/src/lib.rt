@@ -6,9 +6,10 @@
 mod fault;
 mod law;
 
-pub use fault::{LinkFault, MethodName};
+pub use fault::LinkFault;
 pub use law::{
     acyclic_classes_inherit, classes_without_fault_link, examples_can_link,
     found_is_what_linking_finds, linked_classes_have_no_fault, linked_programs_have_the_outline,
     lists_have_their_faults, lists_without_fault_have_names, what_is_reached_is_above,
 };
+pub use nr_linked::MethodName;
