@@ -1,18 +1,15 @@
 -- The methods of a program one by one.
-use Rattle.std.proofs.Common.{◌≡◌, ℕ, zero, suc, ◌+◌, ◌<◌, ◌≤◌, List, [], ◌∷◌, length, get_or, drop, find, arith, refl, sym, ap, subst, ◌∙◌, add-one, Bool, true, false}
-use Rattle.std.specs.Prelude.{Option, Some, None, IsSomeAnd, slice_get, if◌then◌else◌}
-use Rattle.std.specs.Option.{IfSome, option_map}
-use Rattle.nr_linked.specs.declared.program.tables.ClassInfo.{ClassInfo}
+use Rattle.std.proofs.Common.{◌≡◌, ℕ, zero, suc, ◌+◌, List, [], ◌∷◌, drop, refl, ap, subst, ◌∙◌, add-one}
+use Rattle.std.specs.Prelude.{Option, Some, None, IsSomeAnd, slice_get}
+use Rattle.std.specs.Option.{option_map}
 use Rattle.nr_linked.specs.declared.program.tables.MethodInfo.{MethodInfo}
 use Rattle.nr_linked.specs.declared.program.tables.ProgramTables.{ProgramTables}
 use Rattle.nr_linked.specs.Layout.{IsLaidOut}
-use Rattle.nr_linked.specs.Programs.{method_at}
 use Rattle.nr_linked.specs.TypingFaults.{MethodFault as Refusal, first_fault}
-use Rattle.nr_linked.specs.WellTyped.{WellTyped}
 use Rattle.nr_typelaws.specs.Faultless.{HasNoFault}
 use Rattle.nr_typelaws.proofs.Decides.{complete}
 use Rattle.nr_verify.specs.declared.fault.VerifyFault.{VerifyFault}
-use Rattle.nr_verify.specs.declared.fault.VerifyFault.TheVariants.{Op, NoMap, MapMismatch, FallsOff, HandlerMismatch, NoMemory}
+use Rattle.nr_verify.specs.declared.fault.VerifyFault.TheVariants.{NoMemory}
 use Rattle.nr_verify.specs.First.{IsFaultOf, IsRefusal, Tells, first_refused, or_later, program_fault}
 
 pub got : (xs : List MethodInfo) (n : ℕ) (x : MethodInfo) (ys : List MethodInfo) → x ∷ ys ≡ drop n xs → slice_get xs n ≡ Some x

@@ -15,7 +15,7 @@ use Rattle.nr_linked.specs.Facts.{ProgramFacts}
 use Rattle.nr_linked.specs.Layout.{MapsStand}
 use Rattle.nr_linked.specs.Linked.{handlers_of}
 use Rattle.nr_linked.specs.Programs.{method_at}
-use Rattle.nr_linked.specs.Sites.{Site, first_offset, site_among, site_at}
+use Rattle.nr_linked.specs.Sites.{Site, first_offset, site_among}
 use Rattle.nr_linked.specs.Suited.{is_suited}
 use Rattle.nr_typelaws.proofs.Sound.{this_one, other_one, site_above, Behind, behind, all_rise}
 use Rattle.nr_verify.specs.Walking.{HasMapsInOrder, are_suited}
@@ -52,7 +52,7 @@ module _ (P : ProgramTables) (facts : ProgramFacts P) (n : ℕ) (m : MethodInfo)
   suited =
       let laid = facts.laid_out n m body is has in
       all_suited P body.instrs m.resolved (all_rise body.instrs laid.order) laid.one_each
-          (λ at s here. facts.suited n m at s is (ap (λ o. option_and_then (λ (body : Body). site_among body.instrs m.resolved at) o) has ∙ here))
+      (λ at s here. facts.suited n m at s is (ap (λ o. option_and_then (λ (body : Body). site_among body.instrs m.resolved at) o) has ∙ here))
 
   pub maps : HasMapsInOrder m
   maps = ascends body.instrs 0 m.maps (facts.laid_out n m body is has).maps

@@ -12,12 +12,7 @@ use nr_prog::Args;
 use nr_verify_ops::Frame;
 
 /// A branch to the offset: a map is there, and the frame fits it.
-fn check_branch(
-    p: &Program,
-    method: &MethodInfo,
-    frame: &Frame,
-    to: u16,
-) -> Result<(), MethodFault>
+fn check_branch(p: &Program, method: &MethodInfo, frame: &Frame, to: u16) -> Result<(), MethodFault>
     requires { HasMapsInOrder method.now }
     ensures { (next : Passed) → IsStep result (λ u. next) (check_branch p.now frame.now to (map_at method.now to) next) }
 {

@@ -1,13 +1,12 @@
 -- Local variables of which only the first places are listed.
-use Rattle.std.proofs.Common.{◌≡◌, ℕ, zero, suc, ◌+◌, ◌≤◌, ◌⊎◌, inl, inr, Bool, true, false, List, [], ◌∷◌, length, refl, sym, ap, ◌∙◌, arith, ◌&&◌, T, nat_le}
+use Rattle.std.proofs.Common.{◌≡◌, ℕ, zero, suc, ◌+◌, ◌≤◌, ◌⊎◌, inl, inr, Bool, true, false, List, [], ◌∷◌, length, refl, sym, ap, ◌∙◌, arith, T, nat_le}
 use Rattle.std.specs.Prelude.{if◌then◌else◌}
 use Rattle.std.proofs.Math.Facts.{leb_yes}
-use Rattle.nr_linked.specs.declared.program.tables.ProgramTables.{ProgramTables}
 use Rattle.nr_linked.specs.declared.program.types.VType.{VType}
 use Rattle.nr_linked.specs.declared.program.types.VType.TheVariants.{Top, Long, UninitThis, Uninit, Class}
 use Rattle.nr_linked.specs.Kinds.{class_kind}
 use Rattle.nr_linked.specs.TypingCalls.{initialised, is_same_uninit}
-use Rattle.nr_linked.specs.TypingFrames.{padded, is_type_assignable, locals_fit}
+use Rattle.nr_linked.specs.TypingFrames.{padded}
 use Rattle.nr_linked.specs.TypingLocals.{local_type, put, put_word, after, before}
 use Rattle.nr_linked.specs.TypingObjects.{forgotten, is_made_at}
 use Rattle.nr_verify_ops.specs.Listed.{reached}

@@ -1,5 +1,5 @@
 -- The instructions of a method, by their offsets.
-use Rattle.std.specs.Prelude.{◌≡◌, ℕ, Option, IsSomeAnd}
+use Rattle.std.specs.Prelude.{◌≡◌, ℕ, IsSomeAnd}
 use Rattle.std.specs.Option.{IfSome, option_and_then}
 use Rattle.nr_optable.specs.declared.table.Family.{Family}
 use Rattle.nr_prog.specs.declared.body.instruction.Instr.{Instr}

@@ -101,7 +101,12 @@ impl Frame {
     }
 
     /// A store of what the row pops.
-    pub(crate) fn numbered_store(&mut self, method: &MethodInfo, row: &Row, args: &Args) -> Result<(), RuleError>
+    pub(crate) fn numbered_store(
+        &mut self,
+        method: &MethodInfo,
+        row: &Row,
+        args: &Args,
+    ) -> Result<(), RuleError>
         ensures { IsAnswer result self.new (numbered_store method.now row.now args.now self.old) }
     {
         let Some(letter) = only_letter(row.pops) else {
@@ -114,7 +119,12 @@ impl Frame {
     }
 
     /// A load of what the row pushes.
-    pub(crate) fn numbered_load(&mut self, method: &MethodInfo, row: &Row, args: &Args) -> Result<(), RuleError>
+    pub(crate) fn numbered_load(
+        &mut self,
+        method: &MethodInfo,
+        row: &Row,
+        args: &Args,
+    ) -> Result<(), RuleError>
         ensures { IsAnswer result self.new (numbered_load method.now row.now args.now self.old) }
     {
         let Some(letter) = only_letter(row.pushes) else {

@@ -12,7 +12,7 @@ returns-in-Ok c =
     let i = slice_index_or c.args.instrs.now c.in-Ok.place d in
     let here = ranked i.at c.args.at _ (sym (c.in-Ok.ensures.position (λ (i : Instr). i.at) (answers_always _ _ _ (λ f a r g called. search rules)) d)) in
     c.beside.ensures ∙ (ap (λ o. option_map (beside i) o) c.found_at.ensures
-        ∙ site_found c.args.at c.args.instrs.now c.args.resolved.now c.in-Ok.place d c.requires c.in-Ok.ensures.bound here)
+    ∙ site_found c.args.at c.args.instrs.now c.args.resolved.now c.in-Ok.place d c.requires c.in-Ok.ensures.bound here)
 
 pub returns-in-Err : goal.returns-in-Err
 returns-in-Err c = site_missed c.args.instrs.now c.requires c.args.at c.args.resolved.now c.in-Err.field-0

@@ -1,6 +1,6 @@
 use Rattle.std.proofs.Common.{arith, ap, ◌∙◌, length}
 use Rattle.nr_verify_ops.specs.InPlace.{one_forgotten}
-use Rattle.nr_verify_ops.proofs.InPlace.{changed, changed_length, changed_more, all_forgotten}
+use Rattle.nr_verify_ops.proofs.InPlace.{changed_length, changed_more, all_forgotten}
 use Rattle.nr_verify_ops.proofs.uninit.forget.Goals as goal
 
 pub loop-t-preserved : goal.loop-t-preserved

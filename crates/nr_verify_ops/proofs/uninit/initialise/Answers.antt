@@ -1,6 +1,6 @@
 use Rattle.std.proofs.Common.{arith, ap, ◌∙◌, length}
 use Rattle.nr_verify_ops.specs.InPlace.{one_initialised}
-use Rattle.nr_verify_ops.proofs.InPlace.{changed, changed_length, changed_more, all_initialised}
+use Rattle.nr_verify_ops.proofs.InPlace.{changed_length, changed_more, all_initialised}
 use Rattle.nr_verify_ops.proofs.uninit.initialise.Goals as goal
 
 pub loop-u-preserved : goal.loop-u-preserved
