@@ -1,0 +1,4 @@
+pub mod Seen
+pub mod Barren
+pub mod Entries
+pub mod BuiltInEntries
