@@ -2,7 +2,15 @@ pub mod Walks
 pub mod Doubled
 pub mod Rows
 pub mod Resolving
-pub mod Gathering
+pub mod Loops
 pub mod BuiltInNames
 pub mod Texts
 pub mod Outlines
+pub mod Parts
+pub mod Hiding
+pub mod Numbered
+pub mod Named
+pub mod Layouts
+pub mod Steps
+pub mod Apart
+pub mod Searches

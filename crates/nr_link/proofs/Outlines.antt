@@ -13,7 +13,7 @@ use Rattle.nr_linked.specs.declared.program.tables.MethodInfo.{MethodInfo}
 use Rattle.nr_prog.specs.BodyText.{BodyFor, EachBody, HasBodies}
 use Rattle.nr_links.specs.Entries.{method_count}
 use Rattle.nr_linkrules.specs.Outline.{names_of, outline, outline_class, outline_classes, outline_method, outline_methods, own_name, own_names}
-use Rattle.nr_link.proofs.Gathering.{append_nil}
+use Rattle.nr_link.proofs.Loops.{append_nil}
 
 -- ---- counts
 
@@ -108,10 +108,3 @@ module _ (names : List (List ℕ)) (all : List Loaded) (classes : List ClassInfo
   pub all_methods : methods ≡ outline_methods 0 all
   unfolding outline_methods
   all_methods = sym (append_nil methods) ∙ ap (λ l. methods ++ outline_methods (length classes) l) (sym (nil_from_length left (len ∙ none))) ∙ o.methods_are
-
--- ---- the names of the outline
-
-loaded_names : (names : List (List ℕ)) (first : ℕ) (classes : List Loaded) → map (λ (e : ClassInfo). e.name) (outline_classes names first classes) ≡ own_names classes
-unfolding outline_classes outline_class
-loaded_names names first [] = refl
-loaded_names names first (l ∷ ls) = ap (λ ns. own_name l.«class» ∷ ns) (loaded_names names (first + length l.«class».methods) ls)

@@ -90,7 +90,8 @@ fn method_count(class: BuiltIn) -> u32
 /// How many methods the earlier ones declare.
 #[tactic(auto, unfolding(nr_linked::specs::BuiltIns::built_in_class))]
 fn methods_before(class: BuiltIn) -> u32
-    ensures { result ≡ methods_before class }
+    ensures value { result ≡ methods_before class }
+    ensures few { result ≤ 22 }
 {
     match class {
         BuiltIn::Object => 0,
@@ -200,7 +201,7 @@ fn info(
     })
 }
 
-#[tactic(auto, using(crate::proofs::Gathering::maps, crate::proofs::Gathering::mapped))]
+#[tactic(auto, using(crate::proofs::Loops::maps, crate::proofs::Loops::mapped))]
 fn add_infos(
     alloc: Global,
     first_class: ClassId,

@@ -98,7 +98,7 @@ fn add_methods(
     }
 }
 
-#[tactic(auto, using(crate::proofs::Gathering::adds, crate::proofs::Gathering::gathered))]
+#[tactic(auto, using(crate::proofs::Loops::adds, crate::proofs::Loops::gathered))]
 fn add_each(
     alloc: Global,
     first_class: ClassId,

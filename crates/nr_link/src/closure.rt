@@ -2,7 +2,7 @@
 
 ghost use Rattle.std.specs.Prelude.{◌≡◌, ◌<◌, ◌≤◌, ◌+◌, ◌^◌, ◌||◌, ◌==◌, [], length, map, IfOk, IsOkUnless, Some, List, ℕ, slice_get};
 ghost use Rattle.std.specs.List.{range_with_len};
-ghost use Rattle.nr_linkrules.specs.Reaches.{is_step, reaches, reaches_by, row_of, rows_of, steps_up};
+ghost use Rattle.nr_linkrules.specs.Reaches.{HasSteps, is_step, reaches, reaches_by, row_of, rows_of, steps_up};
 
 use nr_linkrules::LinkFault;
 use crate::tables::class_at;
@@ -116,12 +116,18 @@ pub fn rows(alloc: Global, tables: &ProgramTables) -> Result<Items<Items<bool>>,
 }
 
 /// Whether one class stands above the other, or is it.
-#[tactic(auto, using(crate::proofs::Rows::rows_length, crate::proofs::Rows::rows_at, crate::proofs::Rows::row_length, crate::proofs::Rows::row_at))]
+#[tactic(auto, using(crate::proofs::Rows::rows_length, crate::proofs::Rows::rows_at, crate::proofs::Rows::row_length, crate::proofs::Rows::row_at, crate::proofs::Rows::outside_row, crate::proofs::Rows::outside_bit))]
 pub fn reaches(tables: &ProgramTables, rows: &[Items<bool>], class: ClassId, above: ClassId) -> bool
     requires rows { rows.now ≡ rows_of tables.now (length tables.now.classes) }
-    requires class { class < length tables.now.classes }
-    requires above { above < length tables.now.classes }
+    requires steps { HasSteps tables.now }
     ensures { result ≡ reaches tables.now class above }
 {
-    rows[class as usize].as_slice()[above as usize]
+    if class as usize >= rows.len() {
+        return class == above;
+    }
+    let row = rows[class as usize].as_slice();
+    if above as usize >= row.len() {
+        return false;
+    }
+    row[above as usize]
 }

@@ -12,7 +12,7 @@ ghost use Rattle.nr_linkrules.specs.Reaches.{HasSteps, reaches, rows_of};
 ghost use Rattle.nr_link.specs.Barren.{IsBarren};
 
 use crate::closure::reaches;
-use crate::tables::class_at;
+use crate::tables::{class_at, super_of};
 use nr_base::Items;
 use nr_linked::{ClassId, ProgramTables};
 use nr_prog::{Class, Field};
@@ -60,19 +60,13 @@ fn declares_field(tables: &ProgramTables, name: &[u8], desc: &[u8], class: Class
 }
 
 /// What the class names as its direct superinterfaces.
-fn interfaces_of(tables: &ProgramTables, class: ClassId) -> &[ClassId]
+pub fn interfaces_of(tables: &ProgramTables, class: ClassId) -> &[ClassId]
     ensures { result.now ≡ interfaces_of tables.now class }
 {
     match class_at(tables, class) {
         Some(info) => info.interfaces.as_slice(),
         None => &[],
     }
-}
-
-fn super_of(tables: &ProgramTables, class: ClassId) -> Option<ClassId>
-    ensures { result ≡ super_of tables.now class }
-{
-    class_at(tables, class)?.super_class
 }
 
 /// Whether a class at or above the class declares the field. It may also answer true elsewhere.

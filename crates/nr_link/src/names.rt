@@ -1,6 +1,6 @@
 //! Names of classes.
 
-ghost use Rattle.std.specs.Prelude.{◌≡◌, ◌<◌, ◌^◌, ◌∷◌, [], ◌++◌, not, length, map, IfOk, IfSome, IsOkUnless, IsTrue, List};
+ghost use Rattle.std.specs.Prelude.{◌≡◌, ◌<◌, ◌^◌, ◌∷◌, [], ◌++◌, not, length, map, IfOk, IfSome, OnOk, IsOkUnless, IsTrue, List};
 ghost use Rattle.std.specs.List.{list_any};
 ghost use Rattle.std.specs.Str.{bytes_eq};
 ghost use Rattle.nr_base.specs.ModifiedUtf8.{IsModifiedUtf8};
@@ -84,7 +84,8 @@ pub fn class_name_at(class: &Class, index: u16) -> &[u8]
 /// The number of the class of this name.
 #[tactic(auto, unfolding(crate::specs::Seen::texts))]
 pub fn number(names: &IndexSet<&[u8]>, name: &[u8]) -> Option<usize>
-    ensures { result ≡ number_in (texts names.now) name.now }
+    ensures number { result ≡ number_in (texts names.now) name.now }
+    ensures within { IfSome result (λ n. n < length (texts names.now)) }
 {
     names.get_index_of(&name)
 }
@@ -100,7 +101,7 @@ pub fn text_bytes(class: &Class, index: u16) -> &[u8]
     }
 }
 
-#[tactic(auto, using(crate::proofs::Gathering::maps_at, crate::proofs::Gathering::mapped))]
+#[tactic(auto, using(crate::proofs::Loops::maps_at, crate::proofs::Loops::mapped))]
 fn push_loaded_names(
     alloc: Global,
     classes: &[Loaded],
@@ -115,7 +116,7 @@ fn push_loaded_names(
     Ok(())
 }
 
-#[tactic(auto, using(crate::proofs::Gathering::maps, crate::proofs::Gathering::mapped))]
+#[tactic(auto, using(crate::proofs::Loops::maps, crate::proofs::Loops::mapped))]
 fn push_built_in_names(
     alloc: Global,
     classes: &[BuiltIn],
@@ -142,6 +143,7 @@ pub fn all_names(alloc: Global, classes: &[Loaded]) -> Result<Items<Name>, LinkF
 }
 
 /// The numbers of names, each of which stands once among them.
+#[tactic(auto, using(crate::proofs::Numbered::adds))]
 pub fn numbers(alloc: Global, all: &[Name]) -> Result<IndexSet<&[u8]>, LinkFault>
     requires { AreApart all.now }
     ensures names { IfOk result (λ names. texts names ≡ all.now) }
@@ -149,7 +151,7 @@ pub fn numbers(alloc: Global, all: &[Name]) -> Result<IndexSet<&[u8]>, LinkFault
 {
     let mut names = IndexSet::new(alloc);
     for name in all {
-        add(&mut names, name.as_bytes())?;
+        let _new = add(&mut names, name.as_bytes())?;
     }
     Ok(names)
 }

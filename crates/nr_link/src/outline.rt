@@ -37,7 +37,7 @@ fn class_number(names: &IndexSet<&[u8]>, class: &Class, index: u16) -> Option<Cl
     }
 }
 
-#[tactic(auto, using(crate::proofs::Gathering::gathers, crate::proofs::Gathering::gathered))]
+#[tactic(auto, using(crate::proofs::Loops::gathers, crate::proofs::Loops::gathered))]
 fn numbers_of(
     alloc: Global,
     names: &IndexSet<&[u8]>,

@@ -6,18 +6,24 @@ ghost use Rattle.std.specs.Option.{option_map_or};
 ghost use Rattle.nr_prog.specs.Members.{has_flag};
 ghost use Rattle.nr_linked.specs.BuiltIns.{built_in};
 ghost use Rattle.nr_linked.specs.Linked.{is_class_in, is_super_in};
-ghost use Rattle.nr_linked.specs.Programs.{class_at, is_interface};
+ghost use Rattle.nr_linked.specs.Programs.{class_at, is_interface, super_of};
+ghost use Rattle.nr_linked.specs.Slots.{slots_of};
+ghost use Rattle.nr_linked.specs.Subtypes.{is_above};
 ghost use Rattle.nr_links.specs.Rules.{is_final, is_final_class};
 ghost use Rattle.nr_linked.specs.declared.program.built_in.BuiltIn.TheVariants as built_ins;
 ghost use Rattle.nr_linkrules.specs.ClassRules.{has_final_above, has_kinds_above};
 
-use nr_linked::{BuiltIn, ClassId, ClassInfo, ProgramTables};
+use nr_linked::{BuiltIn, ClassId, ClassInfo, ProgramTables, SlotInfo};
 
-const FINAL: u16 = 0x0010;
+pub const ABSTRACT: u16 = 0x0400;
 
-const INTERFACE: u16 = 0x0200;
+pub const STATIC: u16 = 0x0008;
 
-fn has_flag(flags: u16, flag: u16) -> bool
+pub const FINAL: u16 = 0x0010;
+
+pub const INTERFACE: u16 = 0x0200;
+
+pub fn has_flag(flags: u16, flag: u16) -> bool
     ensures { result ≡ has_flag flag flags }
 {
     flags & flag != 0
@@ -92,5 +98,31 @@ pub fn has_final_above(tables: &ProgramTables, info: &ClassInfo) -> bool
     match info.super_class {
         Some(above) => is_final_class(tables, above),
         None => false,
+    }
+}
+
+/// The superclass, which `java/lang/Object` alone doesn't have.
+pub fn super_of(tables: &ProgramTables, class: ClassId) -> Option<ClassId>
+    ensures { result ≡ super_of tables.now class }
+{
+    class_at(tables, class)?.super_class
+}
+
+/// Whether the list of what stands above the class has this one.
+pub fn is_above(tables: &ProgramTables, class: ClassId, above: ClassId) -> bool
+    ensures { result ≡ is_above tables.now class above }
+{
+    match class_at(tables, class) {
+        Some(info) => info.supers.as_slice().contains(&above),
+        None => false,
+    }
+}
+
+pub fn slots_of(tables: &ProgramTables, class: ClassId) -> &[SlotInfo]
+    ensures { result.now ≡ slots_of tables.now class }
+{
+    match class_at(tables, class) {
+        Some(info) => info.slots.as_slice(),
+        None => &[],
     }
 }

@@ -1,11 +1,12 @@
 -- Loops that put together what each item gives.
-use Rattle.std.proofs.Common.{◌≡◌, ℕ, ◌+◌, ◌<◌, ◌≤◌, List, [], ◌∷◌, ◌++◌, length, get_or, drop, map, refl, sym, ap, ◌∙◌, add-one, drop-cons, append_assoc}
-use Rattle.std.specs.List.{flat_map, zip}
+use Rattle.std.proofs.Common.{◌≡◌, ℕ, ◌+◌, ◌<◌, ◌≤◌, List, [], ◌∷◌, ◌++◌, length, get_or, drop, map, refl, sym, ap, ◌∙◌, add-one, drop-cons, append_assoc, arith}
+use Rattle.std.specs.List.{flat_map, range_with_len, zip}
 use Rattle.std.proofs.lemmas.List.{drop_all, nil_from_length}
+use Rattle.std.proofs.lemmas.List.FromFn.{map-range_with_len_more}
 
 pub append_nil : {X : Type 0} (xs : List X) → xs ++ [] ≡ xs
-pub append_nil [] = refl
-pub append_nil (x ∷ xs) = ap (λ ys. x ∷ ys) (append_nil xs)
+append_nil [] = refl
+append_nil (x ∷ xs) = ap (λ ys. x ∷ ys) (append_nil xs)
 
 -- ---- some for each item
 
@@ -78,3 +79,9 @@ pub zipped : {X Y Z : Type 0} (f : X × Y → Z) (i : ℕ) (xs : List X) (before
     → out ++ map f (zip (drop i xs) before) ≡ total → out ≡ total
 zipped f i xs before out total le so_far =
     sym (append_nil out) ∙ ap (λ xs. out ++ map f (zip xs before)) (sym (drop_all i xs le)) ∙ so_far
+
+-- ---- one for each number
+
+pub counts_on : {Y : Type 0} (f : ℕ → Y) (n : ℕ) (out : List Y) (y : Y) → y ≡ f n → out ≡ map f (range_with_len 0 n) → out ++ y ∷ [] ≡ map f (range_with_len 0 (n + 1))
+counts_on f n out y e so_far =
+    ap (λ ys. ys ++ y ∷ []) so_far ∙ ap (λ y. map f (range_with_len 0 n) ++ y ∷ []) e ∙ sym (map-range_with_len_more f 0 n n (omega arith))
