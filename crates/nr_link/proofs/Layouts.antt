@@ -14,7 +14,8 @@ use Rattle.nr_linked.specs.declared.program.tables.ClassInfo.{ClassInfo}
 use Rattle.nr_linked.specs.declared.program.tables.ProgramTables.{ProgramTables}
 use Rattle.nr_linked.specs.declared.program.tables.SlotInfo.{SlotInfo}
 use Rattle.nr_prog.specs.Members.{is_static}
-use Rattle.nr_linkrules.specs.Layout.{laid_class, laid_out, numbered, slot_of, slots_in, slots_read, supers_in}
+use Rattle.nr_linked.specs.Programs.{class_at}
+use Rattle.nr_linkrules.specs.Layout.{laid_class, laid_out, numbered, slot_of, slots_declared, slots_in, slots_read, supers_in}
 use Rattle.nr_link.specs.Entries.{slot_or_none}
 use Rattle.nr_link.specs.Laid.{above_in, laid_by}
 use Rattle.nr_link.specs.declared.layout.Laid.{Laid}
@@ -35,6 +36,12 @@ slots_by_fields P c parts = each parts.fields
     each [] = refl
     each (f ∷ fs) = ap (λ ss. option_to_list (slot_or_none P c parts.pool f) ++ ss) (each fs)
         ∙ by_test (is_static f.flags) f (filter (λ (f : Field). not (is_static f.flags)) fs)
+
+pub declared_by : (P : ProgramTables) (c : ℕ) (e : ClassInfo) (parts : ClassParts) (fs : List Field) → class_at P c ≡ Some e → e.read ≡ Some parts → fs ≡ parts.fields
+    → flat_map (λ f. option_to_list (slot_or_none P c parts.pool f)) fs ≡ slots_declared P c
+declared_by P c e parts fs at read is =
+    ap (flat_map (λ f. option_to_list (slot_or_none P c parts.pool f))) is ∙ slots_by_fields P c parts
+    ∙ sym (ap (λ o. option_map_or (λ (e : ClassInfo). option_map_or (slots_read P c) e.read []) o []) at ∙ ap (λ o. option_map_or (slots_read P c) o []) read)
 
 -- those of the classes behind come first
 pub from_top : {X Y : Type 0} (f : X → List Y) (x : X) (xs : List X) → flat_map f (reverse (x ∷ xs)) ≡ flat_map f (reverse xs) ++ f x

@@ -14,3 +14,6 @@ pub mod Layouts
 pub mod Steps
 pub mod Apart
 pub mod Searches
+pub mod Namings
+pub mod Finding
+pub mod Instrs

@@ -1,6 +1,6 @@
 -- Loops that put together what each item gives.
-use Rattle.std.proofs.Common.{◌≡◌, ℕ, ◌+◌, ◌<◌, ◌≤◌, List, [], ◌∷◌, ◌++◌, length, get_or, drop, map, refl, sym, ap, ◌∙◌, add-one, drop-cons, append_assoc, arith}
-use Rattle.std.specs.List.{flat_map, range_with_len, zip}
+use Rattle.std.proofs.Common.{◌≡◌, ℕ, suc, ◌+◌, ◌-◌, ◌<◌, ◌≤◌, Bool, true, false, cond, List, [], ◌∷◌, ◌++◌, length, get_or, drop, map, refl, sym, ap, ◌∙◌, add-one, drop-cons, append_assoc, arith}
+use Rattle.std.specs.List.{filter, flat_map, range_with_len, zip}
 use Rattle.std.proofs.lemmas.List.{drop_all, nil_from_length}
 use Rattle.std.proofs.lemmas.List.FromFn.{map-range_with_len_more}
 
@@ -85,3 +85,31 @@ zipped f i xs before out total le so_far =
 pub counts_on : {Y : Type 0} (f : ℕ → Y) (n : ℕ) (out : List Y) (y : Y) → y ≡ f n → out ≡ map f (range_with_len 0 n) → out ++ y ∷ [] ≡ map f (range_with_len 0 (n + 1))
 counts_on f n out y e so_far =
     ap (λ ys. ys ++ y ∷ []) so_far ∙ ap (λ y. map f (range_with_len 0 n) ++ y ∷ []) e ∙ sym (map-range_with_len_more f 0 n n (omega arith))
+
+-- ---- the numbers that pass a test
+
+keep_one : (p : ℕ → Bool) (i end : ℕ) → i < end → filter p (range_with_len i (end - i)) ≡ cond (p i) (i ∷ []) [] ++ filter p (range_with_len (i + 1) (end - (i + 1)))
+keep_one p i end lt = ap (λ n. filter p (range_with_len i n)) more ∙ by_test (p i)
+  where
+    more : end - i ≡ suc (end - (i + 1))
+    more = omega (arith, lt)
+
+    by_test : (b : Bool) → cond b (i ∷ filter p (range_with_len (i + 1) (end - (i + 1)))) (filter p (range_with_len (i + 1) (end - (i + 1)))) ≡ cond b (i ∷ []) [] ++ filter p (range_with_len (i + 1) (end - (i + 1)))
+    by_test true = refl
+    by_test false = refl
+
+pub keeps : (p : ℕ → Bool) (i end : ℕ) (out longer total : List ℕ) (passes : Bool) → i < end → passes ≡ p i → longer ≡ out ++ cond passes (i ∷ []) []
+    → out ++ filter p (range_with_len i (end - i)) ≡ total → longer ++ filter p (range_with_len (i + 1) (end - (i + 1))) ≡ total
+keeps p i end out longer total passes lt e f so_far =
+    ap (λ ys. ys ++ filter p (range_with_len (i + 1) (end - (i + 1)))) (f ∙ ap (λ b. out ++ cond b (i ∷ []) []) e)
+    ∙ append_assoc out (cond (p i) (i ∷ []) []) (filter p (range_with_len (i + 1) (end - (i + 1))))
+    ∙ ap (λ ys. out ++ ys) (sym (keep_one p i end lt)) ∙ so_far
+
+pub kept : (p : ℕ → Bool) (i end : ℕ) (out total : List ℕ) → end ≤ i → out ++ filter p (range_with_len i (end - i)) ≡ total → out ≡ total
+kept p i end out total le so_far = sym (append_nil out) ∙ ap (λ n. out ++ filter p (range_with_len i n)) (sym none) ∙ so_far
+  where
+    none : end - i ≡ 0
+    none = omega (arith, le)
+
+pub from_zero : (p : ℕ → Bool) (n : ℕ) → filter p (range_with_len 0 (n - 0)) ≡ filter p (range_with_len 0 n)
+from_zero p n = let e : n - 0 ≡ n = omega arith in ap (λ m. filter p (range_with_len 0 m)) e

@@ -56,7 +56,7 @@ module _ (P : ProgramTables) (test : ℕ → Bool) where
   stepwise : (n s : ℕ) (ss : List ℕ) → find test (flat_map (field_classes P n) (s ∷ ss)) ≡ option_or (find test (field_classes P n s)) (find test (flat_map (field_classes P n) ss))
   stepwise n s ss = find_both test (field_classes P n s) (flat_map (field_classes P n) ss)
 
-  interface_step : (c k s : ℕ) → slice_get (interfaces_of P c) k ≡ Some s → IsDirectlyAbove P c s
+  pub interface_step : (c k s : ℕ) → slice_get (interfaces_of P c) k ≡ Some s → IsDirectlyAbove P c s
   interface_step c k s at = of_option (class_at P c) refl at
     where
       of_option : (o : Option ClassInfo) → class_at P c ≡ o → slice_get (option_map_or (λ (e : ClassInfo). e.interfaces) o []) k ≡ Some s → IsDirectlyAbove P c s

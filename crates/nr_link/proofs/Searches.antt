@@ -1,5 +1,5 @@
 -- Looking for a method, list by list.
-use Rattle.std.proofs.Common.{◌≡◌, ℕ, zero, suc, ◌+◌, ◌<◌, ◌≤◌, Bool, true, false, cond, List, [], ◌∷◌, ◌++◌, length, drop, get_or, find, refl, sym, ap, subst, ◌∙◌, arith, add-one, drop-cons}
+use Rattle.std.proofs.Common.{◌≡◌, ℕ, zero, suc, ◌+◌, ◌-◌, ◌<◌, ◌≤◌, Bool, true, false, cond, List, [], ◌∷◌, ◌++◌, length, drop, get_or, find, refl, sym, ap, subst, ◌∙◌, arith, add-one, drop-cons}
 use Rattle.std.specs.Prelude.{Option, Some, None, IsTrue, is_some, slice_get, codes, if◌then◌else◌}
 use Rattle.std.specs.List.{flat_map}
 use Rattle.std.specs.Option.{option_map_or, option_or}
@@ -137,3 +137,22 @@ module _ (P : ProgramTables) where
         → find (is_called_at P name desc) (flat_map (methods_of P) (superclasses P c)) ≡ None
         → resolved_method P c name desc ≡ find (is_called_at P name desc) (flat_map (methods_of_interfaces P) (superclasses P c))
     in_superinterfaces e f none = in_both e f ∙ then_rest (is_called_at P name desc) (flat_map (methods_of P) (superclasses P c)) _ none
+
+-- ---- the search in an interface and above it
+
+module _ (P : ProgramTables) (name desc : List ℕ) where
+  pub above_begins : (left c : ℕ) (ups : List ℕ) → 0 < left → ups ≡ interfaces_of P c → find (is_called_at P name desc) (methods_of P c) ≡ None
+      → find (is_called_at P name desc) (flat_map (methods_above P (left - 1)) ups) ≡ find (is_called_at P name desc) (methods_above P left c)
+  above_begins zero c ups lt e none = absurd (omega (arith, lt))
+  above_begins (suc n) c ups lt e none =
+      let less : suc n - 1 ≡ n = omega arith in
+      ap (λ m. find (is_called_at P name desc) (flat_map (methods_above P m) ups)) less
+      ∙ ap (λ us. find (is_called_at P name desc) (flat_map (methods_above P n) us)) e
+      ∙ sym (then_rest (is_called_at P name desc) (methods_of P c) (flat_map (methods_above P n) (interfaces_of P c)) none)
+
+  pub above_found : (left c m : ℕ) → 0 < left → find (is_called_at P name desc) (methods_of P c) ≡ Some m → find (is_called_at P name desc) (methods_above P left c) ≡ Some m
+  above_found zero c m lt some = absurd (omega (arith, lt))
+  above_found (suc n) c m lt some = then_found (is_called_at P name desc) (methods_of P c) (flat_map (methods_above P n) (interfaces_of P c)) m some
+
+  pub none_left : (c : ℕ) → None ≡ find (is_called_at P name desc) (methods_above P 0 c)
+  none_left c = refl

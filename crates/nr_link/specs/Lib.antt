@@ -5,3 +5,6 @@ pub mod BuiltInEntries
 pub mod Finals
 pub mod Laid
 pub mod Searching
+pub mod Linking
+pub mod Naming
+pub mod Sites

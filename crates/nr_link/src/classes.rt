@@ -9,7 +9,7 @@ ghost use Rattle.nr_linkrules.specs.Layout.{laid_out};
 ghost use Rattle.nr_linkrules.specs.LinkFaults.{classes_fault};
 ghost use Rattle.nr_linkrules.specs.Outline.{names_of, outline};
 ghost use Rattle.nr_linkrules.specs.Reaches.{HasSteps, rows_of};
-ghost use Rattle.nr_link.specs.Seen.{IsNamesOf, texts};
+ghost use Rattle.nr_link.specs.Seen.{AreApart, IsNamesOf, texts};
 
 use crate::above::check_all_above;
 use crate::closure::rows;
@@ -20,7 +20,7 @@ use crate::members::check_all_members;
 use crate::names::{all_names, numbers};
 use crate::outline::outline;
 use indexmap::IndexSet;
-use nr_base::Items;
+use nr_base::{Items, Name};
 use nr_linked::ProgramTables;
 use nr_linkrules::LinkFault;
 use nr_prog::Loaded;
@@ -64,15 +64,25 @@ fn lay_out_named(
     lay_out(alloc, tables, names, rows.as_slice())
 }
 
+/// The names of all classes, by their numbers, or the first fault of the rules on the list.
+#[tactic(auto, using(crate::proofs::Apart::apart_of))]
+fn checked_names(alloc: Global, classes: &[Loaded]) -> Result<Items<Name>, LinkFault>
+    ensures fault { Finds result (list_fault classes.now) }
+    ensures names { IfOk result (λ names. names ≡ names_of classes.now) }
+    ensures apart { IfOk result AreApart }
+{
+    check_list(alloc, classes)?;
+    all_names(alloc, classes)
+}
+
 /// The classes laid out, or the first fault of the rules on classes.
-#[tactic(auto, using(crate::proofs::Walks::fails_first, crate::proofs::Apart::all_apart, nr_linkrules::proofs::Learnt::few))]
+#[tactic(auto, using(crate::proofs::Walks::fails_first, nr_linkrules::proofs::Learnt::few))]
 pub fn lay_out_classes(alloc: Global, classes: Items<Loaded>) -> Result<ProgramTables, LinkFault>
     requires bodies { All (λ l. HasBodies l.«class» l.bodies) classes }
     ensures fault { Finds result (option_or (list_fault classes) (classes_fault (outline classes))) }
     ensures tables { IfOk result (λ tables. tables ≡ laid_out (outline classes)) }
 {
-    check_list(alloc, classes.as_slice())?;
-    let all = all_names(alloc, classes.as_slice())?;
+    let all = checked_names(alloc, classes.as_slice())?;
     let names = numbers(alloc, all.as_slice())?;
     lay_out_named(alloc, &names, classes)
 }

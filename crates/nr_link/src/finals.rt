@@ -2,8 +2,9 @@
 
 ghost use Rattle.std.specs.Prelude.{◌≡◌, ◌∷◌, ◌++◌, ◌&&◌, ◌==◌, ◌<◌, ◌^◌, ◌-◌, [], not, length, map, IfOk, IsOkUnless};
 ghost use Rattle.std.specs.List.{filter, list_any, range_with_len};
+ghost use Rattle.nr_prog.specs.Members.{is_static};
 ghost use Rattle.nr_linked.specs.Programs.{methods_of};
-ghost use Rattle.nr_linked.specs.Selection.{is_selectable};
+ghost use Rattle.nr_linked.specs.Selection.{is_private};
 ghost use Rattle.nr_linkrules.specs.ClassRules.{has_final, has_final_over, hides_final, method_name, override_fault};
 ghost use Rattle.nr_linkrules.specs.Faults.{Finds, first_of};
 ghost use Rattle.nr_linkrules.specs.Reaches.{HasSteps, reaches, rows_of};
@@ -11,6 +12,7 @@ ghost use Rattle.nr_link.specs.Finals.{finals_in, finals_of, is_called_as, is_op
 
 use crate::above::copied;
 use crate::closure::reaches;
+use crate::gathering::push_if;
 use crate::tables::{FINAL, STATIC, class_at, has_flag};
 use nr_base::{Items, Name};
 use nr_linked::{ClassId, MethodInfo, ProgramTables};
@@ -22,7 +24,7 @@ const PRIVATE: u16 = 0x0002;
 
 /// Whether the method is neither static nor private.
 fn is_open(method: &MethodInfo) -> bool
-    ensures { result ≡ not (Rattle.nr_prog.specs.Members.is_static method.now.flags) && not (Rattle.nr_linked.specs.Selection.is_private method.now.flags) }
+    ensures { result ≡ (not (is_static method.now.flags) && not (is_private method.now.flags)) }
 {
     !has_flag(method.flags, STATIC) && !has_flag(method.flags, PRIVATE)
 }
@@ -55,6 +57,7 @@ fn is_open_final_at(tables: &ProgramTables, method: usize) -> bool
     }
 }
 
+#[tactic(auto, using(crate::proofs::Loops::keeps, crate::proofs::Loops::kept))]
 fn finals_in(
     alloc: Global,
     tables: &ProgramTables,
@@ -63,11 +66,12 @@ fn finals_in(
     ensures finals { IfOk result (λ finals. finals ≡ finals_in tables.now class) }
     ensures err { IsOkUnless result LinkFault.NoMemory }
 {
-    let methods = methods_of(tables, class);
-    let finals: Vec<usize> = methods
-        .filter(|method| is_open_final_at(tables, *method))
-        .collect(alloc)?;
-    Ok(Items::from_vec(finals))
+    let mut finals = Items::new(alloc);
+    let Range { start, end } = methods_of(tables, class);
+    for method in start..end {
+        push_if(&mut finals, is_open_final_at(tables, method), method)?;
+    }
+    Ok(finals)
 }
 
 /// Of each class the methods that no method below may hide.

@@ -1,6 +1,6 @@
 //! Lists that grow by what is there.
 
-ghost use Rattle.std.specs.Prelude.{◌≡◌, ◌++◌, OnOk};
+ghost use Rattle.std.specs.Prelude.{◌≡◌, ◌++◌, ◌∷◌, [], if◌then◌else◌, OnOk};
 ghost use Rattle.std.specs.Option.{option_to_list};
 
 use nr_base::Items;
@@ -14,4 +14,15 @@ pub fn push_some<T: Drop>(items: &mut Items<T>, item: Option<T>) -> Result<(), A
         Some(item) => items.push(item),
         None => Ok(()),
     }
+}
+
+/// Puts the item at the end of the list, where the condition holds.
+pub fn push_if<T: Drop>(
+    items: &mut Items<T>,
+    condition: bool,
+    item: T,
+) -> Result<(), AllocError>
+    ensures { OnOk result (items.new ≡ items.old ++ (if condition then item ∷ [] else [])) }
+{
+    if condition { items.push(item) } else { Ok(()) }
 }

@@ -79,7 +79,7 @@ fn check_method_desc(
 }
 
 /// Looks for the class that the descriptor of a field at this index names.
-#[tactic(auto, using(crate::proofs::Parts::first_of_one), unfolding(nr_linkrules::specs::ClassRules::field_fault))]
+#[tactic(auto, using(crate::proofs::Parts::first_of_one, crate::proofs::Parts::first_of_none), unfolding(nr_linkrules::specs::ClassRules::field_fault))]
 pub fn check_field(
     alloc: Global,
     tables: &ProgramTables,
@@ -98,7 +98,7 @@ pub fn check_field(
 }
 
 /// Looks for the classes that the descriptor of a method at this index names.
-#[tactic(auto, unfolding(nr_linkrules::specs::ClassRules::method_fault))]
+#[tactic(auto, using(crate::proofs::Parts::first_of_none), unfolding(nr_linkrules::specs::ClassRules::method_fault))]
 pub fn check_method(
     alloc: Global,
     tables: &ProgramTables,

@@ -11,7 +11,7 @@ ghost use Rattle.nr_link.specs.Seen.{IsNamesOf};
 ghost use Rattle.nr_link.specs.Laid.{above_in, laid_by};
 
 use crate::closure::reaches;
-use crate::gathering::push_some;
+use crate::gathering::{push_if, push_some};
 use crate::kinds::kind_said;
 use crate::names::{name_of, text_bytes};
 use crate::tables::{STATIC, class_at, has_flag, super_of};
@@ -143,7 +143,7 @@ fn slots_in(
     Ok(slots)
 }
 
-#[tactic(auto, unfolding(nr_linkrules::specs::Layout::supers_in))]
+#[tactic(auto, using(crate::proofs::Loops::keeps, crate::proofs::Loops::kept, crate::proofs::Loops::from_zero), unfolding(nr_linkrules::specs::Layout::supers_in))]
 fn supers_in(
     alloc: Global,
     tables: &ProgramTables,
@@ -156,10 +156,11 @@ fn supers_in(
     ensures supers { IfOk result (λ supers. supers ≡ supers_in tables.now class) }
     ensures err { IsOkUnless result LinkFault.NoMemory }
 {
-    let supers: Vec<ClassId> = (0..tables.classes.len() as u32)
-        .filter(|above| reaches(tables, rows, class, *above))
-        .collect(alloc)?;
-    Ok(Items::from_vec(supers))
+    let mut supers = Items::new(alloc);
+    for above in 0..tables.classes.len() as u32 {
+        push_if(&mut supers, reaches(tables, rows, class, above), above)?;
+    }
+    Ok(supers)
 }
 
 /// What is laid out for a class.

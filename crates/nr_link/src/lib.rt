@@ -5,6 +5,7 @@
 mod above;
 mod built_in;
 mod built_in_methods;
+mod classes;
 mod closure;
 mod cycles;
 mod fields;
@@ -13,11 +14,17 @@ mod gathering;
 mod kinds;
 mod known;
 mod layout;
+mod linking;
 mod list;
+mod main_method;
 mod members;
+mod methods;
 mod names;
+mod naming;
 mod outline;
 mod service;
+mod sites;
 mod tables;
 
+pub use main_method::find_main;
 pub use service::find_service;

@@ -2,6 +2,7 @@
 //! profile).
 
 ghost use Rattle.std.specs.Prelude.{◌≡◌, ◌&&◌, ◌<◌, ◌^◌, not, length};
+ghost use Rattle.std.specs.Option.{option_or};
 ghost use Rattle.std.specs.Str.{bytes_eq};
 ghost use Rattle.nr_prog.specs.Members.{is_abstract, is_static, spells};
 ghost use Rattle.nr_linked.specs.Selection.{is_public};
@@ -100,6 +101,22 @@ fn check_methods(
     Ok(())
 }
 
+/// Looks for the classes of the descriptors of the class's members, fields first.
+#[tactic(auto, using(crate::proofs::Walks::fails_first))]
+fn check_types(
+    alloc: Global,
+    tables: &ProgramTables,
+    names: &IndexSet<&[u8]>,
+    class: &Class,
+) -> Result<(), LinkFault>
+    requires names { IsNamesOf tables.now names.now }
+    ensures { Finds result (option_or (first_of (λ f. field_fault tables.now class.now.pool f.desc) class.now.fields) (first_of (λ m. method_fault tables.now class.now.pool m.desc) class.now.methods)) }
+{
+    let parts = class.parts();
+    check_fields(alloc, tables, names, class, parts.fields.as_slice())?;
+    check_methods(alloc, tables, names, class, parts.methods.as_slice())
+}
+
 #[tactic(auto, using(crate::proofs::Walks::fails_first), unfolding(nr_linkrules::specs::ClassRules::members_fault))]
 fn check_members_of(
     alloc: Global,
@@ -124,10 +141,8 @@ fn check_members_of(
     if is_interface(tables, place) && !has_interface_members(class) {
         return Err(LinkFault::InterfaceMember(copied(&info.name)?));
     }
-    let parts = class.parts();
     check_overrides(tables, rows, finals, &info.name, place)?;
-    check_fields(alloc, tables, names, class, parts.fields.as_slice())?;
-    check_methods(alloc, tables, names, class, parts.methods.as_slice())
+    check_types(alloc, tables, names, class)
 }
 
 fn check_entry(

@@ -23,7 +23,7 @@ use std::alloc::Global;
 
 /// The kind that the descriptor says.
 fn known_kind(linking: Linking, desc: &Desc) -> Result<Kind, LinkFault>
-    requires { IsKnown linking.entry }
+    requires { IsKnown linking }
     ensures { GivesWhole is_free result (known_kind linking.entry.tables.now desc.now) }
 {
     match kind_of(linking.tables, linking.names, desc) {
@@ -43,7 +43,7 @@ pub fn kind_at(
     class: &Class,
     index: u16,
 ) -> Result<Kind, LinkFault>
-    requires known { IsKnown linking.entry }
+    requires known { IsKnown linking }
     requires named { NamesAnyClass class.now.pool index }
     ensures { GivesWhole is_free result (kind_at linking.entry.tables.now class.now.pool index) }
 {

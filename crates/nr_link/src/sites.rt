@@ -49,7 +49,7 @@ fn holder(alloc: Global, linking: Linking, site: Site) -> Result<(Name, MethodNa
 
 /// The class whose members the kind has: an array has those of `java/lang/Object`.
 fn class_with_members(linking: Linking, kind: Kind) -> Option<ClassId>
-    requires { IsKnown linking.entry }
+    requires { IsKnown linking }
     ensures { result ≡ class_with_members linking.entry.tables.now kind }
 {
     if kind.dims > 0 {
@@ -69,7 +69,7 @@ fn is_slot_of(slot: &SlotInfo, declared_in: ClassId, name: &[u8], desc: &[u8]) -
 
 /// The slot of the field to which a reference to the class resolves.
 fn resolved_slot(linking: Linking, class: ClassId, name: &[u8], desc: &[u8]) -> Option<u32>
-    requires { IsKnown linking.entry }
+    requires { IsKnown linking }
     ensures { result ≡ resolved_slot linking.entry.tables.now class name.now desc.now }
 {
     let declared_in = field_class(linking.tables, linking.rows, class, name, desc)?;
@@ -89,7 +89,7 @@ fn slot_found(
     name: &[u8],
     desc: &[u8],
 ) -> Result<Resolved, LinkFault>
-    requires { IsKnown linking.entry }
+    requires { IsKnown linking }
     ensures { GivesWhole is_free result (slot_found linking.entry.tables.now (place_of linking.entry site.entry) name.now desc.now kind) }
 {
     if let Some(class) = class_with_members(linking, kind) {
@@ -144,7 +144,7 @@ fn method_of(
     desc: &[u8],
     class: ClassId,
 ) -> Option<usize>
-    requires { IsKnown linking.entry }
+    requires { IsKnown linking }
     ensures { result ≡ method_of linking.entry.tables.now kind name.now desc.now class }
 {
     if kind.dims > 0 && is_initialiser_name(name) {
@@ -162,7 +162,7 @@ fn callable(
     class: ClassId,
     method: usize,
 ) -> Result<Resolved, LinkFault>
-    requires { IsKnown linking.entry }
+    requires { IsKnown linking }
     ensures { GivesWhole is_free result (callable linking.entry.tables.now (place_of linking.entry site.entry) code class method) }
 {
     if let Some(info) = linking.tables.methods.as_slice().get(method) {
@@ -184,7 +184,7 @@ fn method_found(
     name: &[u8],
     desc: &[u8],
 ) -> Result<Resolved, LinkFault>
-    requires { IsKnown linking.entry }
+    requires { IsKnown linking }
     ensures { GivesWhole is_free result (method_found linking.entry.tables.now (place_of linking.entry site.entry) code name.now desc.now kind) }
 {
     if let Some(class) = class_with_members(linking, kind) {
@@ -241,8 +241,8 @@ fn slot_at(
     class: u16,
     member: u16,
 ) -> Result<Resolved, LinkFault>
-    requires known { IsKnown linking.entry }
-    requires named { NamesAnyClass site.entry.class.now.pool class }
+    requires known { IsKnown linking }
+    requires named { NamesAnyClass site.class.now.pool class }
     ensures { GivesWhole is_free result (on_member linking.entry.tables.now site.entry.class.now.pool (slot_found linking.entry.tables.now (place_of linking.entry site.entry)) class member) }
 {
     let kind = kind_at(alloc, linking, site.class, class)?;
@@ -259,8 +259,8 @@ fn method_at(
     class: u16,
     member: u16,
 ) -> Result<Resolved, LinkFault>
-    requires known { IsKnown linking.entry }
-    requires named { NamesAnyClass site.entry.class.now.pool class }
+    requires known { IsKnown linking }
+    requires named { NamesAnyClass site.class.now.pool class }
     ensures { GivesWhole is_free result (on_member linking.entry.tables.now site.entry.class.now.pool (method_found linking.entry.tables.now (place_of linking.entry site.entry) code) class member) }
 {
     let kind = kind_at(alloc, linking, site.class, class)?;
@@ -285,8 +285,8 @@ fn field_found(
     site: Site,
     index: u16,
 ) -> Result<Resolved, LinkFault>
-    requires known { IsKnown linking.entry }
-    requires named { IfSome (entry_at site.entry.class.now.pool index) (NamesMemberOf site.entry.class.now.pool) }
+    requires known { IsKnown linking }
+    requires named { IfSome (entry_at site.class.now.pool index) (NamesMemberOf site.class.now.pool) }
     ensures { GivesWhole is_free result (on_entry (by_member linking.entry.tables.now site.entry.class.now.pool (slot_found linking.entry.tables.now (place_of linking.entry site.entry))) site.entry.class.now.pool index) }
 {
     match site.class.entry(index) {
@@ -306,8 +306,8 @@ fn call_found(
     code: u8,
     index: u16,
 ) -> Result<Resolved, LinkFault>
-    requires known { IsKnown linking.entry }
-    requires named { IfSome (entry_at site.entry.class.now.pool index) (NamesMemberOf site.entry.class.now.pool) }
+    requires known { IsKnown linking }
+    requires named { IfSome (entry_at site.class.now.pool index) (NamesMemberOf site.class.now.pool) }
     ensures { GivesWhole is_free result (on_entry (by_member linking.entry.tables.now site.entry.class.now.pool (method_found linking.entry.tables.now (place_of linking.entry site.entry) code)) site.entry.class.now.pool index) }
 {
     match site.class.entry(index) {
@@ -328,8 +328,8 @@ fn found_by(
     index: u16,
     family: Family,
 ) -> Result<Resolved, LinkFault>
-    requires known { IsKnown linking.entry }
-    requires named { NamesBy site.entry.class.now.pool index family }
+    requires known { IsKnown linking }
+    requires named { NamesBy site.class.now.pool index family }
     ensures { GivesWhole is_free result (found_by linking.entry.tables.now (place_of linking.entry site.entry) site.entry.class.now.pool code index family) }
 {
     match family {
@@ -357,7 +357,7 @@ pub fn instr_found(
     class: &Class,
     instr: &Instr,
 ) -> Result<Resolved, LinkFault>
-    requires known { IsKnown linking.entry }
+    requires known { IsKnown linking }
     requires named { IsNamed class.now.pool instr.now }
     ensures { GivesWhole is_free result (instr_found linking.entry.tables.now (place_in linking.entry.tables.now method.now) class.now.pool instr.now) }
 {
