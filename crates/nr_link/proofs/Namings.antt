@@ -8,7 +8,8 @@ use Rattle.nr_base.specs.declared.desc.types.DescBase.TheVariants as bases
 use Rattle.nr_base.specs.ModifiedUtf8.{IsModifiedUtf8}
 use Rattle.nr_prog.specs.declared.pool.PoolEntry.{PoolEntry}
 use Rattle.nr_prog.specs.BodyNames.{NamesAnyClass, class_text_at}
-use Rattle.nr_instrs.specs.NameTests.{class_desc, class_desc_at}
+use Rattle.nr_prog.specs.TextForms.{class_desc}
+use Rattle.nr_instrs.specs.NameTests.{class_desc_at}
 use Rattle.nr_linked.specs.declared.program.tables.ProgramTables.{ProgramTables}
 use Rattle.nr_linkrules.specs.declared.fault.LinkFault.TheVariants as faults
 use Rattle.nr_linkrules.specs.Layout.{kind_of}

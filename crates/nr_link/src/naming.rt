@@ -11,12 +11,12 @@ ghost use Rattle.nr_link.specs.Linking.{IsKnown};
 ghost use Rattle.nr_link.specs.Naming.{known_kind};
 
 use crate::above::copied;
-use crate::kinds::kind_of;
+use crate::kinds::class_named;
 use crate::linking::Linking;
 use crate::names::{class_bytes, name_of, text_bytes};
 use nr_base::{Desc, DescBase};
 use nr_instrs::class_type;
-use nr_linked::Kind;
+use nr_linked::{Base, Kind};
 use nr_linkrules::LinkFault;
 use nr_prog::{Class, PoolEntry};
 use std::alloc::Global;
@@ -26,13 +26,24 @@ fn known_kind(linking: Linking, desc: &Desc) -> Result<Kind, LinkFault>
     requires { IsKnown linking }
     ensures { GivesWhole is_free result (known_kind linking.entry.tables.now desc.now) }
 {
-    match kind_of(linking.tables, linking.names, desc) {
-        Some(kind) => Ok(kind),
-        None => match &desc.base {
-            DescBase::Object(name) => Err(LinkFault::NoClass(copied(name)?)),
-            _ => Err(LinkFault::NoMemory),
-        },
-    }
+    let base = match &desc.base {
+        DescBase::Bool => Base::Bool,
+        DescBase::Byte => Base::Byte,
+        DescBase::Char => Base::Char,
+        DescBase::Short => Base::Short,
+        DescBase::Int => Base::Int,
+        DescBase::Long => Base::Long,
+        DescBase::Object(name) => {
+            match class_named(linking.tables, linking.names, name.as_bytes()) {
+                Some(class) => Base::Object(class),
+                None => return Err(LinkFault::NoClass(copied(name)?)),
+            }
+        }
+    };
+    Ok(Kind {
+        dims: desc.dims,
+        base,
+    })
 }
 
 /// The class or the array that the index names.
@@ -47,10 +58,9 @@ pub fn kind_at(
     requires named { NamesAnyClass class.now.pool index }
     ensures { GivesWhole is_free result (kind_at linking.entry.tables.now class.now.pool index) }
 {
-    match class_type(alloc, class, index) {
-        Ok(Some(desc)) => known_kind(linking, &desc),
-        Ok(None) => Err(LinkFault::NoClass(name_of(alloc, class_bytes(class, index))?)),
-        Err(_) => Err(LinkFault::NoMemory),
+    match class_type(class, index) {
+        Some(desc) => known_kind(linking, desc.get()),
+        None => Err(LinkFault::NoClass(name_of(alloc, class_bytes(class, index))?)),
     }
 }
 
