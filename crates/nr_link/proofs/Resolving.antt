@@ -12,7 +12,7 @@ use Rattle.nr_linked.specs.Programs.{class_at, super_of}
 use Rattle.nr_linked.specs.Subtypes.{IsDirectlyAbove, further, itself}
 use Rattle.nr_links.specs.Resolution.{declares_field, field_classes, interfaces_of}
 use Rattle.nr_linked.proofs.Elements.{get_either, passing}
-use Rattle.nr_linked.proofs.Upward.{step_of, super_step}
+use Rattle.nr_linked.proofs.Ascents.{step_of, super_step}
 use Rattle.nr_linkrules.specs.Reaches.{HasSteps, reaches}
 use Rattle.nr_link.specs.Barren.{IsBarren}
 use Rattle.nr_linkrules.proofs.Reached.{reaches_above}

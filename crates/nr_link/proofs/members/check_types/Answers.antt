@@ -16,7 +16,7 @@ returns-in_err-check_fields c =
     let p = err_from_is_err_and c.from_residual.result c.from_residual.ensures.1 in
     let e = c.as_slice.ensures ∙ ap (λ (p : ClassParts). p.fields) c.parts-parts.ensures.parts in
     let rule = λ (f : Field). field_fault c.args.tables.now c.args.class.now.pool f.desc in
-    rw (p.1, p.2) (fails_first _ _ _ (subst (λ (fs : List Field). Fails _ (first_of rule fs)) e c.in_err-check_fields.ensures))
+    rw (p.1, p.2) (fails_first _ _ _ (subst (λ (fs : List Field). Fails c.in_err-check_fields.field-0 (first_of rule fs)) e c.in_err-check_fields.ensures))
 
 pub returns : goal.returns
 returns c =
