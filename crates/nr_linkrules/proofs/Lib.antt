@@ -15,6 +15,7 @@ pub mod LaidOut
 pub mod SameFound
 pub mod PassedCode
 pub mod Program
+pub mod Behind
 pub mod Shifted
 pub mod Known
 pub mod KnownAbove

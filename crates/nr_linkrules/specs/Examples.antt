@@ -9,6 +9,7 @@ use Rattle.nr_prog.specs.declared.body.frame_map.FrameMap.{FrameMap}
 use Rattle.nr_prog.specs.declared.body.frame_map.MapType.TheVariants as map_types
 use Rattle.nr_base.specs.declared.desc.types.DescBase.TheVariants as desc_bases
 use Rattle.nr_prog.specs.declared.body.instruction.Args.TheVariants.{Empty, Pool}
+use Rattle.nr_prog.specs.declared.body.instruction.Instr.{Instr}
 use Rattle.nr_prog.specs.declared.body.loaded.Loaded.{Loaded}
 use Rattle.nr_prog.specs.declared.body.whole.Body.{Body}
 use Rattle.nr_prog.specs.declared.member.Handler.{Handler}
@@ -122,13 +123,17 @@ making named = with_code (codes "A") MethodRef named [] [] (at_1 187 F33 8)
 abbrev pub casting : List ℕ → Loaded
 casting named = with_code (codes "A") MethodRef named [] [] (at_1 192 F37 8)
 
+-- code that names nothing
+abbrev pub ending : List Instr
+ending = instr 0 nop Empty ∷ instr 1 return_ Empty ∷ []
+
 -- catching what the catch type names
 abbrev pub handler : ℕ → Handler
 handler catch_type = record { start = 0; end = 1; handler = 1; catch_type = catch_type }
 
 abbrev pub catching : List ℕ → ℕ → Loaded
 catching named catch_type =
-    with_code (codes "A") MethodRef named [] [] (body_of (instr 0 nop Empty ∷ instr 1 return_ Empty ∷ []) (handler catch_type ∷ []) [])
+    with_code (codes "A") MethodRef named [] [] (body_of ending (handler catch_type ∷ []) [])
 
 -- an array of the class on the operand stack
 abbrev pub array_map : List ℕ → FrameMap
@@ -140,7 +145,7 @@ array_map named = record {
 
 abbrev pub mapping : List ℕ → Loaded
 mapping named =
-    with_code (codes "A") MethodRef [] [] [] (body_of (instr 0 nop Empty ∷ instr 1 return_ Empty ∷ []) [] (array_map named ∷ []))
+    with_code (codes "A") MethodRef [] [] [] (body_of ending [] (array_map named ∷ []))
 
 -- ---- as many classes as there may be, and one more
 
@@ -148,6 +153,42 @@ abbrev pub full : List Loaded
 full = replicate 1024 (below (codes "A") object)
 
 -- ---- the first fault of each list
+
+-- names of classes
+abbrev pub a : List ℕ
+a = codes "A"
+
+abbrev pub b : List ℕ
+b = codes "B"
+
+abbrev pub c : List ℕ
+c = codes "C"
+
+abbrev pub q : List ℕ
+q = codes "Q"
+
+abbrev pub r : List ℕ
+r = codes "R"
+
+-- an interface with the method m
+abbrev pub face : Loaded
+face = with_members (codes "I") object 0x0601 [] (0x0401 ∷ []) (codes "m") (codes "()V")
+
+-- A that calls m of B, which has it
+abbrev pub calling_b : ℕ → List Loaded
+calling_b code = calling code b (codes "m") (codes "()V") ∷ with_method b object 0x0401 ∷ []
+
+-- A that calls m of the interface
+abbrev pub calling_face : ℕ → List Loaded
+calling_face code = calling code (codes "I") (codes "m") (codes "()V") ∷ face ∷ []
+
+-- A with an instruction that names the field v of this class or array
+abbrev pub using : List ℕ → Loaded
+using named = using_field named (codes "v") (codes "I")
+
+-- A that uses v of B, which has v with these flags
+abbrev pub using_b : ℕ → List Loaded
+using_b flags = using b ∷ with_members b object 0x0021 (flags ∷ []) [] (codes "v") (codes "I") ∷ []
 
 pub record Example : Type 0 where
   pub classes : List Loaded
@@ -162,125 +203,125 @@ passes classes = record { classes = classes; fault = None }
 -- of the list itself
 unfoldable pub list_examples : List Example
 list_examples =
-    fails (below (codes "A") object ∷ full) (faults.LimitClasses 1025)
+    fails (below a object ∷ full) (faults.LimitClasses 1025)
     -- 1,024 aren't too many
-    ∷ fails full (faults.DoubledClass (codes "A"))
-    ∷ fails (below (codes "A") object ∷ below (codes "java/X") object ∷ []) (faults.ReservedName (codes "java/X"))
+    ∷ fails full (faults.DoubledClass a)
+    ∷ fails (below a object ∷ below (codes "java/X") object ∷ []) (faults.ReservedName (codes "java/X"))
     -- before a name that comes twice
-    ∷ fails (below (codes "A") object ∷ below (codes "A") object ∷ below (codes "nrmi/X") object ∷ []) (faults.ReservedName (codes "nrmi/X"))
-    ∷ fails (below (codes "A") (codes "Q") ∷ below (codes "B") object ∷ below (codes "A") object ∷ []) (faults.DoubledClass (codes "A"))
+    ∷ fails (below a object ∷ below a object ∷ below (codes "nrmi/X") object ∷ []) (faults.ReservedName (codes "nrmi/X"))
+    ∷ fails (below a q ∷ below b object ∷ below a object ∷ []) (faults.DoubledClass a)
     ∷ passes []
-    ∷ passes (below (codes "B") (codes "A") ∷ below (codes "A") object ∷ [])
+    ∷ passes (below b a ∷ below a object ∷ [])
     ∷ []
 
 -- of what classes name above them
 unfoldable pub above_examples : List Example
 above_examples =
-    fails (below (codes "A") (codes "B") ∷ []) (faults.NoClass (codes "B"))
-    ∷ fails (with_interface (codes "A") object (codes "F") ∷ []) (faults.NoClass (codes "F"))
+    fails (below a b ∷ []) (faults.NoClass b)
+    ∷ fails (with_interface a object (codes "F") ∷ []) (faults.NoClass (codes "F"))
     -- the superclass before the interfaces
-    ∷ fails (with_interface (codes "A") (codes "B") (codes "F") ∷ []) (faults.NoClass (codes "B"))
+    ∷ fails (with_interface a b (codes "F") ∷ []) (faults.NoClass b)
     -- class by class, so A's kind before B's superclass
-    ∷ fails (below (codes "A") (codes "java/lang/Cloneable") ∷ below (codes "B") (codes "Q") ∷ []) (faults.SuperKind (codes "A"))
-    ∷ fails (with_interface (codes "A") object (codes "nrmi/Out") ∷ []) (faults.SuperKind (codes "A"))
+    ∷ fails (below a (codes "java/lang/Cloneable") ∷ below b q ∷ []) (faults.SuperKind a)
+    ∷ fails (with_interface a object (codes "nrmi/Out") ∷ []) (faults.SuperKind a)
     -- an interface below a class that isn't java/lang/Object
-    ∷ fails (plain (codes "A") (codes "java/lang/Throwable") 0x0601 ∷ []) (faults.SuperKind (codes "A"))
-    ∷ fails (below (codes "A") (codes "B") ∷ plain (codes "B") object 0x0031 ∷ []) (faults.FinalSuper (codes "A"))
-    ∷ fails (below (codes "A") (codes "nrmi/Out") ∷ []) (faults.FinalSuper (codes "A"))
-    ∷ fails (below (codes "A") (codes "A") ∷ []) (faults.Cycle (codes "A"))
+    ∷ fails (plain a (codes "java/lang/Throwable") 0x0601 ∷ []) (faults.SuperKind a)
+    ∷ fails (below a b ∷ plain b object 0x0031 ∷ []) (faults.FinalSuper a)
+    ∷ fails (below a (codes "nrmi/Out") ∷ []) (faults.FinalSuper a)
+    ∷ fails (below a a ∷ []) (faults.Cycle a)
     -- C isn't on the cycle
-    ∷ fails (below (codes "C") (codes "A") ∷ below (codes "A") (codes "B") ∷ below (codes "B") (codes "A") ∷ []) (faults.Cycle (codes "A"))
+    ∷ fails (below c a ∷ below a b ∷ below b a ∷ []) (faults.Cycle a)
     -- what all classes name above them before cycles
-    ∷ fails (below (codes "A") (codes "B") ∷ below (codes "B") (codes "A") ∷ below (codes "C") (codes "java/lang/Cloneable") ∷ []) (faults.SuperKind (codes "C"))
+    ∷ fails (below a b ∷ below b a ∷ below c (codes "java/lang/Cloneable") ∷ []) (faults.SuperKind c)
     -- cycles before members
-    ∷ fails (with_members (codes "M") object 0x0021 [] (0x0401 ∷ []) (codes "<clinit>") (codes "()V") ∷ below (codes "A") (codes "A") ∷ []) (faults.Cycle (codes "A"))
-    ∷ passes (with_interface (codes "A") object (codes "nrmi/Restorable") ∷ plain (codes "I") object 0x0601 ∷ with_interface (codes "B") (codes "A") (codes "I") ∷ [])
+    ∷ fails (with_members (codes "M") object 0x0021 [] (0x0401 ∷ []) (codes "<clinit>") (codes "()V") ∷ below a a ∷ []) (faults.Cycle a)
+    ∷ passes (with_interface a object (codes "nrmi/Restorable") ∷ plain (codes "I") object 0x0601 ∷ with_interface b a (codes "I") ∷ [])
     ∷ []
 
 -- A with a method of the first flags, and B directly below it with one of the second
 abbrev pub over : ℕ → ℕ → List Loaded
-over upper lower = with_method (codes "B") (codes "A") lower ∷ with_method (codes "A") object upper ∷ []
+over upper lower = with_method b a lower ∷ with_method a object upper ∷ []
 
 abbrev pub override : LinkFault
-override = faults.FinalOverride (codes "B") (record { name = codes "m"; desc = codes "()V" })
+override = faults.FinalOverride b (record { name = codes "m"; desc = codes "()V" })
 
 -- a class with an abstract method of this descriptor, and one with a static field of this one
 abbrev pub describing : List ℕ → Loaded
-describing desc = with_members (codes "A") object 0x0421 [] (0x0401 ∷ []) (codes "m") desc
+describing desc = with_members a object 0x0421 [] (0x0401 ∷ []) (codes "m") desc
 
 abbrev pub holding : List ℕ → Loaded
-holding desc = with_members (codes "A") object 0x0021 (0x0008 ∷ []) [] (codes "v") desc
+holding desc = with_members a object 0x0021 (0x0008 ∷ []) [] (codes "v") desc
 
 -- of members
 unfoldable pub member_examples : List Example
 member_examples =
-    fails (with_members (codes "A") object 0x0601 [] (0x0008 ∷ []) (codes "<clinit>") (codes "()V") ∷ []) (faults.Initialiser (codes "A"))
-    ∷ fails (with_members (codes "A") object 0x0601 (0x0001 ∷ []) [] (codes "v") (codes "I") ∷ []) (faults.InterfaceMember (codes "A"))
-    ∷ fails (with_members (codes "A") object 0x0601 [] (0x0400 ∷ []) (codes "m") (codes "()I") ∷ []) (faults.InterfaceMember (codes "A"))
+    fails (with_members a object 0x0601 [] (0x0008 ∷ []) (codes "<clinit>") (codes "()V") ∷ []) (faults.Initialiser a)
+    ∷ fails (with_members a object 0x0601 (0x0001 ∷ []) [] (codes "v") (codes "I") ∷ []) (faults.InterfaceMember a)
+    ∷ fails (with_members a object 0x0601 [] (0x0400 ∷ []) (codes "m") (codes "()I") ∷ []) (faults.InterfaceMember a)
     ∷ fails (over 0x0011 0x0001) override
     ∷ fails (over 0x0010 0x0401) override
     -- above by two steps
-    ∷ fails (with_method (codes "B") (codes "C") 0x0001 ∷ below (codes "C") (codes "A") ∷ with_method (codes "A") object 0x0011 ∷ []) override
+    ∷ fails (with_method b c 0x0001 ∷ below c a ∷ with_method a object 0x0011 ∷ []) override
     -- the lower one is final, or one of them is private or static
     ∷ passes (over 0x0001 0x0011) ∷ passes (over 0x0012 0x0001) ∷ passes (over 0x0018 0x0001) ∷ passes (over 0x0011 0x0002) ∷ passes (over 0x0011 0x0009)
     -- the class of an array's elements; of static fields too
-    ∷ fails (holding (codes "[[LQ;") ∷ []) (faults.NoClass (codes "Q"))
+    ∷ fails (holding (codes "[[LQ;") ∷ []) (faults.NoClass q)
     -- parameters before the result
-    ∷ fails (describing (codes "(I[LA;LQ;)LR;") ∷ []) (faults.NoClass (codes "Q"))
-    ∷ fails (describing (codes "(ILA;)LR;") ∷ []) (faults.NoClass (codes "R"))
+    ∷ fails (describing (codes "(I[LA;LQ;)LR;") ∷ []) (faults.NoClass q)
+    ∷ fails (describing (codes "(ILA;)LR;") ∷ []) (faults.NoClass r)
     ∷ passes (holding (codes "[Lnrmi/Out;") ∷ []) ∷ passes (describing (codes "(LA;[J)[C") ∷ [])
     ∷ []
 
 -- of instructions, exception handlers and frame maps
 unfoldable pub site_examples : List Example
 site_examples =
-    fails (using_field (codes "A") (codes "v") (codes "I") ∷ []) (faults.NoField (codes "A") go 1)
+    fails (using a ∷ []) (faults.NoField a go 1)
     -- the class that holds the instruction, not the one that it names
-    ∷ fails (using_field (codes "B") (codes "v") (codes "I") ∷ below (codes "B") object ∷ []) (faults.NoField (codes "A") go 1)
+    ∷ fails (using b ∷ below b object ∷ []) (faults.NoField a go 1)
     -- a static field
-    ∷ fails (using_field (codes "B") (codes "v") (codes "I") ∷ with_members (codes "B") object 0x0021 (0x0008 ∷ []) [] (codes "v") (codes "I") ∷ []) (faults.NoField (codes "A") go 1)
-    ∷ fails (using_field (codes "Q") (codes "v") (codes "I") ∷ []) (faults.NoClass (codes "Q"))
+    ∷ fails (using_b 0x0008) (faults.NoField a go 1)
+    ∷ fails (using q ∷ []) (faults.NoClass q)
     -- an array has no field; its elements' class is looked at before; bytes that name nothing are told whole
-    ∷ fails (using_field (codes "[I") (codes "v") (codes "I") ∷ []) (faults.NoField (codes "A") go 1)
-    ∷ fails (using_field (codes "[[LQ;") (codes "v") (codes "I") ∷ []) (faults.NoClass (codes "Q"))
-    ∷ fails (using_field (codes "[F") (codes "v") (codes "I") ∷ []) (faults.NoClass (codes "[F"))
-    ∷ passes (using_field (codes "B") (codes "v") (codes "I") ∷ with_members (codes "B") object 0x0021 (0x0001 ∷ []) [] (codes "v") (codes "I") ∷ [])
-    ∷ fails (calling 182 (codes "A") (codes "q") (codes "()V") ∷ []) (faults.NoMethod (codes "A") go 1)
+    ∷ fails (using (codes "[I") ∷ []) (faults.NoField a go 1)
+    ∷ fails (using (codes "[[LQ;") ∷ []) (faults.NoClass q)
+    ∷ fails (using (codes "[F") ∷ []) (faults.NoClass (codes "[F"))
+    ∷ passes (using_b 0x0001)
+    ∷ fails (calling 182 a (codes "q") (codes "()V") ∷ []) (faults.NoMethod a go 1)
     -- an initialiser is looked for in the named class alone, and an array has none
-    ∷ fails (calling 183 (codes "A") (codes "<init>") (codes "()V") ∷ []) (faults.NoMethod (codes "A") go 1)
-    ∷ fails (calling 183 (codes "[I") (codes "<init>") (codes "()V") ∷ []) (faults.NoMethod (codes "A") go 1)
-    ∷ fails (calling 182 (codes "[LQ;") (codes "q") (codes "()V") ∷ []) (faults.NoClass (codes "Q"))
+    ∷ fails (calling 183 a (codes "<init>") (codes "()V") ∷ []) (faults.NoMethod a go 1)
+    ∷ fails (calling 183 (codes "[I") (codes "<init>") (codes "()V") ∷ []) (faults.NoMethod a go 1)
+    ∷ fails (calling 182 (codes "[LQ;") (codes "q") (codes "()V") ∷ []) (faults.NoClass q)
     -- invokevirtual of a static method, invokestatic of one that isn't, invokevirtual of an interface, invokeinterface of a class
-    ∷ fails (calling 182 (codes "A") (codes "go") (codes "()V") ∷ []) (faults.MemberKind (codes "A") go 1)
-    ∷ fails (calling 184 (codes "B") (codes "m") (codes "()V") ∷ with_method (codes "B") object 0x0401 ∷ []) (faults.MemberKind (codes "A") go 1)
-    ∷ fails (calling 182 (codes "I") (codes "m") (codes "()V") ∷ with_members (codes "I") object 0x0601 [] (0x0401 ∷ []) (codes "m") (codes "()V") ∷ []) (faults.MemberKind (codes "A") go 1)
-    ∷ fails (calling 185 (codes "B") (codes "m") (codes "()V") ∷ with_method (codes "B") object 0x0401 ∷ []) (faults.MemberKind (codes "A") go 1)
+    ∷ fails (calling 182 a (codes "go") (codes "()V") ∷ []) (faults.MemberKind a go 1)
+    ∷ fails (calling_b 184) (faults.MemberKind a go 1)
+    ∷ fails (calling_face 182) (faults.MemberKind a go 1)
+    ∷ fails (calling_b 185) (faults.MemberKind a go 1)
     -- an initialiser outside invokespecial, and invokespecial of another method of a class that isn't above
-    ∷ fails (calling 182 object (codes "<init>") (codes "()V") ∷ []) (faults.MemberKind (codes "A") go 1)
-    ∷ fails (calling 183 (codes "B") (codes "m") (codes "()V") ∷ with_method (codes "B") object 0x0401 ∷ []) (faults.MemberKind (codes "A") go 1)
-    ∷ passes (calling 184 (codes "A") (codes "go") (codes "()V") ∷ [])
+    ∷ fails (calling 182 object (codes "<init>") (codes "()V") ∷ []) (faults.MemberKind a go 1)
+    ∷ fails (calling_b 183) (faults.MemberKind a go 1)
+    ∷ passes (calling 184 a (codes "go") (codes "()V") ∷ [])
     ∷ passes (calling 183 object (codes "<init>") (codes "()V") ∷ [])
-    ∷ passes (calling 185 (codes "I") (codes "m") (codes "()V") ∷ with_members (codes "I") object 0x0601 [] (0x0401 ∷ []) (codes "m") (codes "()V") ∷ [])
+    ∷ passes (calling_face 185)
     -- `new` of an interface, of an abstract class, of an array
-    ∷ fails (making (codes "java/lang/Cloneable") ∷ []) (faults.NotMakeable (codes "A") go 1)
-    ∷ fails (making (codes "B") ∷ plain (codes "B") object 0x0421 ∷ []) (faults.NotMakeable (codes "A") go 1)
-    ∷ fails (making (codes "[LA;") ∷ []) (faults.NotMakeable (codes "A") go 1)
-    ∷ fails (making (codes "[LQ;") ∷ []) (faults.NoClass (codes "Q"))
-    ∷ passes (making (codes "A") ∷ [])
+    ∷ fails (making (codes "java/lang/Cloneable") ∷ []) (faults.NotMakeable a go 1)
+    ∷ fails (making b ∷ plain b object 0x0421 ∷ []) (faults.NotMakeable a go 1)
+    ∷ fails (making (codes "[LA;") ∷ []) (faults.NotMakeable a go 1)
+    ∷ fails (making (codes "[LQ;") ∷ []) (faults.NoClass q)
+    ∷ passes (making a ∷ [])
     -- a class named I is none of the primitive types
     ∷ fails (casting (codes "I") ∷ []) (faults.NoClass (codes "I"))
     ∷ passes (casting (codes "[[Z") ∷ [])
     -- exception handlers and frame maps; a catch type of 0 names none
-    ∷ fails (catching (codes "Q") 8 ∷ []) (faults.NoClass (codes "Q"))
-    ∷ passes (catching (codes "Q") 0 ∷ [])
-    ∷ fails (mapping (codes "Q") ∷ []) (faults.NoClass (codes "Q"))
-    ∷ passes (mapping (codes "A") ∷ [])
+    ∷ fails (catching q 8 ∷ []) (faults.NoClass q)
+    ∷ passes (catching q 0 ∷ [])
+    ∷ fails (mapping q ∷ []) (faults.NoClass q)
+    ∷ passes (mapping a ∷ [])
     -- instructions of all classes before exception handlers
-    ∷ fails (catching (codes "Q") 8 ∷ with_code (codes "B") MethodRef (codes "R") [] [] (at_1 192 F37 8) ∷ []) (faults.NoClass (codes "R"))
+    ∷ fails (catching q 8 ∷ with_code b MethodRef r [] [] (at_1 192 F37 8) ∷ []) (faults.NoClass r)
     ∷ []
 
 -- ---- a program to run
 
--- the tables with a method `main` of an array of ints that gives an int, in place of each method's descriptor
+-- the tables, where each method takes an array of ints and gives an int by its descriptor
 unfoldable pub runnable : ProgramTables → ProgramTables
 runnable P = record P { methods = map (λ (i : MethodInfo). record i { desc = codes "([I)I" }) P.methods }
