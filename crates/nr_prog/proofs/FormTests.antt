@@ -1,6 +1,6 @@
 -- What a text spells, as it was read, tells each rule's test.
-use Rattle.std.proofs.Common.{◌≡◌, ℕ, zero, suc, Bool, true, false, cond, List, [], ◌∷◌, map, Option, Some, None, Result, Ok, Err, refl, sym, ap, ◌∙◌}
-use Rattle.std.specs.Prelude.{is_ok, is_some, is_none, slice_get}
+use Rattle.std.proofs.Common.{◌≡◌, ℕ, zero, suc, Bool, false, cond, List, Option, Some, None, Result, Ok, Err, refl, sym, ap, ◌∙◌}
+use Rattle.std.specs.Prelude.{is_ok, is_some, slice_get}
 use Rattle.std.specs.Option.{option_map, option_map_or}
 use Rattle.std.proofs.lemmas.Option.{slice_get-map}
 use Rattle.nr_base.specs.DescReading.{desc_of, method_of}
@@ -10,7 +10,7 @@ use Rattle.nr_base.specs.declared.desc.types.MethodDesc.{MethodDesc}
 use Rattle.nr_prog.specs.declared.pool.PoolEntry.{PoolEntry}
 use Rattle.nr_prog.specs.declared.text.MethodForm.{MethodForm}
 use Rattle.nr_prog.specs.declared.text.TextForm.{TextForm}
-use Rattle.nr_prog.specs.Pool.{text_in, text_at, entry_at}
+use Rattle.nr_prog.specs.Pool.{text_in, text_at}
 use Rattle.nr_prog.specs.LegalTests.{is_class_text, is_field_text, is_method_text, is_field_desc, is_method_desc, returns_nothing, is_void_desc}
 use Rattle.nr_prog.specs.Members.{spells}
 use Rattle.nr_prog.specs.TextForms.{dims_in, method_form, form_of, form_in, forms_of, form_at, given, listed_form, void_of}

@@ -13,8 +13,8 @@ use Rattle.std.proofs.lemmas.Bool.{eqb-true}
 use Rattle.std.specs.Cmp.Lexicographic.{bytes_decides, slice_cmp}
 use Rattle.nr_prog.specs.declared.pool.PoolEntry.{PoolEntry}
 use Rattle.nr_prog.specs.declared.pool.PoolEntry.TheVariants.{Utf8}
-use Rattle.nr_prog.specs.Pool.{text_in, text_at, entry_at}
-use Rattle.nr_prog.specs.Members.{spells, is_spelled}
+use Rattle.nr_prog.specs.Pool.{text_in, text_at}
+use Rattle.nr_prog.specs.Members.{is_spelled}
 use Rattle.nr_prog.specs.Seen.{is_pair}
 use Rattle.nr_prog.specs.TextNumbers.{has_text, first_from, listed_number, number, number_in, numbers_of}
 use Rattle.nr_prog.specs.Told.{found_in, told}

@@ -9,7 +9,6 @@ use Rattle.nr_base.specs.declared.desc.fault.DescFault.{DescFault}
 use Rattle.nr_base.specs.declared.desc.types.Desc.{Desc}
 use Rattle.nr_base.specs.declared.desc.types.MethodDesc.{MethodDesc}
 use Rattle.nr_prog.specs.declared.pool.PoolEntry.{PoolEntry}
-use Rattle.nr_prog.specs.declared.pool.PoolEntry.TheVariants.{Utf8}
 use Rattle.nr_prog.specs.declared.text.MethodForm.{MethodForm}
 use Rattle.nr_prog.specs.declared.text.TextForm.{TextForm}
 use Rattle.nr_prog.specs.Pool.{text_in, text_at}

@@ -1,5 +1,5 @@
 -- A number for each text of a constant pool: the index of the first entry with this text.
-use Rattle.std.specs.Prelude.{ℕ, zero, suc, ◌+◌, slice_get, List, [], ◌∷◌, map, Bool, true, false, Option, Some, None, if◌then◌else◌}
+use Rattle.std.specs.Prelude.{ℕ, zero, suc, ◌+◌, slice_get, List, [], ◌∷◌, map, Bool, false, Option, Some, None, if◌then◌else◌}
 use Rattle.std.specs.Option.{unwrap_or}
 use Rattle.std.specs.Str.{bytes_eq}
 use Rattle.nr_prog.specs.declared.pool.PoolEntry.{PoolEntry}

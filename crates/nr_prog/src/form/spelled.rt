@@ -1,6 +1,6 @@
 //! Whether an index names a text that is a legal name or a descriptor.
 
-ghost use Rattle.std.specs.Prelude.{◌≡◌, Some, None, if◌then◌else◌};
+ghost use Rattle.std.specs.Prelude.{◌≡◌, Some, None};
 ghost use Rattle.std.specs.Option.{option_map_or};
 ghost use Rattle.nr_prog.specs.LegalTests.{is_class_text, is_field_desc, is_field_text, is_method_text};
 ghost use Rattle.nr_prog.specs.Members.{spells};

@@ -1,6 +1,6 @@
 //! A constant pool whose texts were read.
 
-ghost use Rattle.std.specs.Prelude.{◌≡◌, ◌<◌, ◌^◌, ℕ, List, Some, length, All, Contains, IfSome, option_copied};
+ghost use Rattle.std.specs.Prelude.{◌≡◌, ◌<◌, ◌^◌, ℕ, List, Some, All, option_copied};
 ghost use Rattle.nr_prog.specs.Pool.{entry_at, text_at, text_len};
 ghost use Rattle.nr_prog.specs.TextForms.{form_at, forms_of};
 ghost use Rattle.nr_prog.specs.TextNumbers.{number as number_of, numbers_of};
