@@ -63,14 +63,14 @@ any_both p (x ∷ xs) ys e f = by_test (p x) e (λ e. any_both p xs ys e f)
     by_test false e h = h e
 
 apart_both : (xs ys : List (List ℕ)) → AreApart xs → AreApart ys → ((j : ℕ) (d : List ℕ) → j < length ys → list_any (bytes_eq (get_or ys j d)) xs ≡ false) → AreApart (xs ++ ys)
-apart_both xs ys first second others = record { each = λ k d lt. by_test k d lt (nat_lt k (length xs)) refl }
+apart_both xs ys first second others k d lt = by_test (nat_lt k (length xs)) refl
   where
-    by_test : (k : ℕ) (d : List ℕ) → k < length (xs ++ ys) → (b : Bool) → nat_lt k (length xs) ≡ b → list_any (bytes_eq (get_or (xs ++ ys) k d)) (take k (xs ++ ys)) ≡ false
-    by_test k d lt true e =
+    by_test : (b : Bool) → nat_lt k (length xs) ≡ b → list_any (bytes_eq (get_or (xs ++ ys) k d)) (take k (xs ++ ys)) ≡ false
+    by_test true e =
         let short = ltb-true k (length xs) e in
         ap (λ n. list_any (bytes_eq n) (take k (xs ++ ys))) (get_or_append_left xs ys d k short)
-        ∙ ap (list_any (bytes_eq (get_or xs k d))) (take_front xs ys k short) ∙ first.each k d short
-    by_test k d lt false e =
+        ∙ ap (list_any (bytes_eq (get_or xs k d))) (take_front xs ys k short) ∙ first k d short
+    by_test false e =
         let past = ltb-false k (length xs) e in
         let j : ℕ = k - length xs in
         let is : k ≡ length xs + j = omega (arith, past) in
@@ -79,7 +79,7 @@ apart_both xs ys first second others = record { each = λ k d lt. by_test k d lt
         subst (λ k. list_any (bytes_eq (get_or (xs ++ ys) k d)) (take k (xs ++ ys)) ≡ false) (sym is)
         (ap (λ n. list_any (bytes_eq n) (take (length xs + j) (xs ++ ys))) (get_past xs ys j d)
         ∙ ap (list_any (bytes_eq (get_or ys j d))) (take_past xs ys j)
-        ∙ any_both (bytes_eq (get_or ys j d)) xs (take j ys) (others j d short) (second.each j d short))
+        ∙ any_both (bytes_eq (get_or ys j d)) xs (take j ys) (others j d short) (second j d short))
 
 -- ---- built-in names
 
@@ -91,7 +91,7 @@ unfolding built_in_class
 tested = refl
 
 built_ins_apart : AreApart built_in_names
-built_ins_apart = record { each = λ k d lt. apart_behind [] built_in_names tested k d lt }
+built_ins_apart k d lt = apart_behind [] built_in_names tested k d lt
 
 all_reserved : list_all is_reserved built_in_names ≡ true
 unfolding built_in_class
@@ -118,15 +118,12 @@ module _ (classes : List Loaded) (none : list_fault classes ≡ None) where
   name_at : (k : ℕ) (l : Loaded) → slice_get classes k ≡ Some l → slice_get (own_names classes) k ≡ Some (own_name l.«class»)
   name_at k l at = slice_get-map (λ (l : Loaded). own_name l.«class») classes k ∙ ap (option_map (λ (l : Loaded). own_name l.«class»)) at
 
-  own_each : (k : ℕ) (d : List ℕ) → k < length (own_names classes) → list_any (bytes_eq (get_or (own_names classes) k d)) (take k (own_names classes)) ≡ false
-  own_each k d lt =
+  own_apart : AreApart (own_names classes)
+  own_apart k d lt =
       let found = loaded_at k lt in
       let each = each_numbered (doubled_fault (own_names classes)) 0 classes doubled_none k k found.0 (omega arith) found.1 in
       let here = get_or_from_slice_get (own_names classes) k (own_name found.0.«class») d (name_at k found.0 found.1) in
       ap (λ n. list_any (bytes_eq n) (take k (own_names classes))) here ∙ is_false (is_earlier (own_names classes) k (own_name found.0.«class»)) (passes _ _ each)
-
-  own_apart : AreApart (own_names classes)
-  own_apart = record { each = own_each }
 
   own_unreserved : (k : ℕ) (name : List ℕ) → slice_get (own_names classes) k ≡ Some name → is_reserved name ≡ false
   own_unreserved k name at =
@@ -141,6 +138,3 @@ module _ (classes : List Loaded) (none : list_fault classes ≡ None) where
       let found = any_at (bytes_eq b) (own_names classes) e in
       let same = (bytes_eq-Decides b found.1).0 found.3 in
       both_ways (is_reserved b) (ap is_reserved same ∙ own_unreserved found.0 found.1 found.2) (reserved_at built_in_names all_reserved j d lt)))
-
-pub apart_of : (classes : List Loaded) (names : List (List ℕ)) → list_fault classes ≡ None → names ≡ names_of classes → AreApart names
-apart_of classes names none e = subst AreApart (sym e) (all_apart classes none)

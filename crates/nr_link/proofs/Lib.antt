@@ -7,13 +7,7 @@ pub mod BuiltInNames
 pub mod Texts
 pub mod Outlines
 pub mod Parts
-pub mod Hiding
 pub mod Numbered
 pub mod Named
-pub mod Layouts
 pub mod Steps
 pub mod Apart
-pub mod Searches
-pub mod Namings
-pub mod Finding
-pub mod Instrs

@@ -15,5 +15,5 @@ more (x ∷ xs) (suc i) d lt =
 pub adds : (all : List (List ℕ)) (i : ℕ) (name : List ℕ) (before after : List (List ℕ)) (new : Bool) → AreApart all → i < length all → name ≡ get_or all i name
     → before ≡ take i all → new ≡ not (list_any (bytes_eq name) before) → (IsTrue new → after ≡ before ++ name ∷ []) → after ≡ take (i + 1) all
 adds all i name before after new apart lt here so_far is_new kept =
-    kept (is_new ∙ ap not (ap (list_any (bytes_eq name)) so_far ∙ ap (λ n. list_any (bytes_eq n) (take i all)) here ∙ apart.each i name lt))
+    kept (is_new ∙ ap not (ap (list_any (bytes_eq name)) so_far ∙ ap (λ n. list_any (bytes_eq n) (take i all)) here ∙ apart i name lt))
     ∙ ap (λ ys. ys ++ name ∷ []) so_far ∙ ap (λ n. take i all ++ n ∷ []) here ∙ sym (more all i name lt)

@@ -2,9 +2,3 @@ pub mod Seen
 pub mod Barren
 pub mod Entries
 pub mod BuiltInEntries
-pub mod Finals
-pub mod Laid
-pub mod Searching
-pub mod Linking
-pub mod Naming
-pub mod Sites

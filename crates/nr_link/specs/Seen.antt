@@ -15,5 +15,6 @@ abbrev pub IsNamesOf : {S : Type 0} → ProgramTables → IndexSet (Bor (List �
 IsNamesOf P names = texts names ≡ map (λ e. e.name) P.classes
 
 -- each of the texts stands once among them
-pub record AreApart (names : List (List ℕ)) : Type 0 where
-  pub each : (k : ℕ) (d : List ℕ) → k < length names → list_any (bytes_eq (slice_index_or names k d)) (take k names) ≡ false
+abbrev pub AreApart : List (List ℕ) → Type 0
+AreApart names =
+    (k : ℕ) (d : List ℕ) → k < length names → list_any (bytes_eq (slice_index_or names k d)) (take k names) ≡ false

@@ -10,12 +10,12 @@ ghost use Rattle.nr_linkrules.specs.LinkFaults.{first_class_fault, on_loaded};
 ghost use Rattle.nr_linkrules.specs.Outline.{some_text};
 ghost use Rattle.nr_link.specs.Seen.{IsNamesOf, texts};
 
-use nr_linkrules::LinkFault;
 use crate::names::{class_name_at, name_of, number};
 use crate::tables::{has_final_above, has_kinds_above};
 use indexmap::IndexSet;
 use nr_base::Name;
 use nr_linked::{ClassId, ClassInfo, ProgramTables};
+use nr_linkrules::LinkFault;
 use nr_prog::Class;
 use std::alloc::Global;
 

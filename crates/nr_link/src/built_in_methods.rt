@@ -71,10 +71,42 @@ fn add_printing(
     ensures err { IsOkUnless result LinkFault.NoMemory }
 {
     let flags = 0x0009;
-    add_method(alloc, class, b"print", b"([C)V", flags, kind(1, Base::Char), methods)?;
-    add_method(alloc, class, b"print", b"(C)V", flags, kind(0, Base::Char), methods)?;
-    add_method(alloc, class, b"print", b"(I)V", flags, kind(0, Base::Int), methods)?;
-    add_method(alloc, class, b"print", b"(J)V", flags, kind(0, Base::Long), methods)?;
+    add_method(
+        alloc,
+        class,
+        b"print",
+        b"([C)V",
+        flags,
+        kind(1, Base::Char),
+        methods,
+    )?;
+    add_method(
+        alloc,
+        class,
+        b"print",
+        b"(C)V",
+        flags,
+        kind(0, Base::Char),
+        methods,
+    )?;
+    add_method(
+        alloc,
+        class,
+        b"print",
+        b"(I)V",
+        flags,
+        kind(0, Base::Int),
+        methods,
+    )?;
+    add_method(
+        alloc,
+        class,
+        b"print",
+        b"(J)V",
+        flags,
+        kind(0, Base::Long),
+        methods,
+    )?;
     add_method(alloc, class, b"line", b"()V", flags, None, methods)
 }
 

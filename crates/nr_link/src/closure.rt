@@ -4,10 +4,10 @@ ghost use Rattle.std.specs.Prelude.{◌≡◌, ◌<◌, ◌≤◌, ◌+◌, ◌^
 ghost use Rattle.std.specs.List.{range_with_len};
 ghost use Rattle.nr_linkrules.specs.Reaches.{HasSteps, is_step, reaches, reaches_by, row_of, rows_of, steps_up};
 
-use nr_linkrules::LinkFault;
 use crate::tables::class_at;
 use nr_base::Items;
 use nr_linked::{ClassId, ClassInfo, ProgramTables};
+use nr_linkrules::LinkFault;
 use std::alloc::Global;
 
 fn leads_to(info: &ClassInfo, above: ClassId) -> bool

@@ -17,11 +17,7 @@ pub fn push_some<T: Drop>(items: &mut Items<T>, item: Option<T>) -> Result<(), A
 }
 
 /// Puts the item at the end of the list, where the condition holds.
-pub fn push_if<T: Drop>(
-    items: &mut Items<T>,
-    condition: bool,
-    item: T,
-) -> Result<(), AllocError>
+pub fn push_if<T: Drop>(items: &mut Items<T>, condition: bool, item: T) -> Result<(), AllocError>
     ensures { OnOk result (items.new ≡ items.old ++ (if condition then item ∷ [] else [])) }
 {
     if condition { items.push(item) } else { Ok(()) }

@@ -14,11 +14,7 @@ use std::alloc::Global;
 
 /// The number of the class of this name.
 #[tactic(auto, using(crate::proofs::Named::named_by_texts, crate::proofs::Named::as_many))]
-pub fn class_named(
-    tables: &ProgramTables,
-    names: &IndexSet<&[u8]>,
-    name: &[u8],
-) -> Option<ClassId>
+pub fn class_named(tables: &ProgramTables, names: &IndexSet<&[u8]>, name: &[u8]) -> Option<ClassId>
     requires names { IsNamesOf tables.now names.now }
     requires few { length tables.now.classes < 2 ^ 32 }
     ensures { result ≡ class_named tables.now name.now }

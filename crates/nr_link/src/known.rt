@@ -17,11 +17,7 @@ use std::alloc::Global;
 
 /// Looks for the class of that name.
 #[tactic(auto, using(nr_linkrules::proofs::NameLaws::known_by_texts), unfolding(nr_linkrules::specs::ClassRules::known_fault))]
-fn check_name(
-    tables: &ProgramTables,
-    names: &IndexSet<&[u8]>,
-    name: &Name,
-) -> Result<(), LinkFault>
+fn check_name(tables: &ProgramTables, names: &IndexSet<&[u8]>, name: &Name) -> Result<(), LinkFault>
     requires names { IsNamesOf tables.now names.now }
     ensures { Finds result (known_fault tables.now name.now) }
 {

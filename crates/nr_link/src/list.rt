@@ -10,9 +10,9 @@ ghost use Rattle.nr_linkrules.specs.Outline.{own_name, own_names};
 ghost use Rattle.nr_link.specs.Seen.{texts};
 ghost use Rattle.nr_linkrules.specs.declared.fault.LinkFault.TheVariants as faults;
 
-use nr_linkrules::LinkFault;
 use crate::names::{add, name_of, own_name};
 use indexmap::IndexSet;
+use nr_linkrules::LinkFault;
 use nr_prog::Loaded;
 use std::alloc::Global;
 

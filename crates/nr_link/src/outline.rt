@@ -184,7 +184,9 @@ fn add_class(
     let first = tables.methods.len() as u32;
     let declared = class.parts().methods.as_slice();
     add_methods(alloc, place, &class, declared, bodies, &mut tables.methods)?;
-    tables.classes.push(outline_class(alloc, names, first, class)?)?;
+    tables
+        .classes
+        .push(outline_class(alloc, names, first, class)?)?;
     Ok(())
 }
 

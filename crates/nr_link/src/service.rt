@@ -7,9 +7,9 @@ ghost use Rattle.nr_linkrules.specs.Faults.{is_free};
 ghost use Rattle.nr_linkrules.specs.Mains.{service_of};
 
 use crate::above::copied;
-use nr_linkrules::LinkFault;
 use nr_base::Name;
 use nr_linked::{BuiltIn, ClassId, Program};
+use nr_linkrules::LinkFault;
 use std::alloc::Global;
 
 /// The class of that name, which a server can serve.

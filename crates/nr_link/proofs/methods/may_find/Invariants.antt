@@ -1,6 +1,0 @@
-use Rattle.nr_link.specs.Searching.{declares_method}
-use Rattle.nr_link.proofs.Resolving.{NoneBelow}
-use Rattle.nr_link.proofs.methods.may_find.Given as goal
-
-abbrev pub invariant-loop-above : goal.invariant-loop-above
-invariant-loop-above l = NoneBelow l.tables (declares_method l.tables l.name l.desc) l.class l.above
