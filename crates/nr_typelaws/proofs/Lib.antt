@@ -5,3 +5,4 @@ pub mod Decides
 pub mod Suited
 pub mod Never
 pub mod Failing
+pub mod ByHandFaults

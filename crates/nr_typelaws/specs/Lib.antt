@@ -1,3 +1,4 @@
 pub mod Faultless
 pub mod Frames
 pub mod Failing
+pub mod ByHand

@@ -4,6 +4,6 @@
 mod law;
 
 pub use law::{
-    faults_are_of_the_first_check_that_fails, no_first_fault_means_well_typed,
+    faults_are_of_the_first_check_that_fails, faults_by_hand, no_first_fault_means_well_typed,
     suited_code_is_never_unsuited, suited_instructions_have_a_rule,
 };

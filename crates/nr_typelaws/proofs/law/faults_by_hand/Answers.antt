@@ -1,0 +1,6 @@
+use Rattle.std.proofs.Common.{refl}
+use Rattle.nr_typelaws.proofs.ByHandFaults.{all_told}
+use Rattle.nr_typelaws.proofs.law.faults_by_hand.Goals as goal
+
+pub returns : goal.returns
+returns c = all_told
