@@ -1,15 +1,11 @@
 -- Classes as types, and the frame at a method's entry.
-use Rattle.std.proofs.Common.{◌≡◌, ℕ, suc, ◌-◌, ◌≤◌, Bool, true, false, cond, ◌&&◌, eqb, List, [], ◌∷◌, ◌++◌, map, replicate, Option, Some, None, Result, Ok, Err, inl, inr, refl, sym, ap, subst, ◌∙◌, arith}
+use Rattle.std.proofs.Common.{◌≡◌, ℕ, cond, List, [], ◌∷◌, ◌++◌, map, Option, Some, None, Ok, inl, refl, sym, ap, subst, ◌∙◌}
 use Rattle.std.specs.Prelude.{IsSomeAnd}
 use Rattle.std.specs.Option.{option_map_or}
 use Rattle.std.specs.List.{All}
-use Rattle.std.proofs.lemmas.Bool.{ne_eqb, eqb-false}
 use Rattle.nr_base.specs.Grammar.{IsBytes, give}
-use Rattle.nr_base.specs.Names.{is_name}
-use Rattle.nr_base.specs.LegalNames.{class_from}
-use Rattle.nr_base.specs.Descs.{desc, base_text, method_desc}
-use Rattle.nr_base.specs.DescReading.{desc_of, method_of}
-use Rattle.nr_base.specs.declared.desc.fault.DescFault.{DescFault}
+use Rattle.nr_base.specs.Descs.{desc, method_desc}
+use Rattle.nr_base.specs.DescReading.{method_of}
 use Rattle.nr_base.specs.declared.desc.types.Desc.{Desc}
 use Rattle.nr_base.specs.declared.desc.types.MethodDesc.{MethodDesc}
 use Rattle.nr_base.proofs.Laws.{Reads, give_law, none_law, same_law}
@@ -22,12 +18,11 @@ use Rattle.nr_prog.specs.declared.body.frame_map.MapType.TheVariants as types
 use Rattle.nr_prog.specs.Pool.{IsText, entry_at, text_at}
 use Rattle.nr_prog.specs.Members.{is_static}
 use Rattle.nr_prog.specs.Legal.{IsClassText, IsMethodDesc}
-use Rattle.nr_prog.specs.LegalTests.{is_class_text}
-use Rattle.nr_prog.specs.Form.{Spells, IsFormed, IsMethodFormed, NamesClass}
+use Rattle.nr_prog.specs.Form.{IsFormed, IsMethodFormed, NamesClass}
 use Rattle.nr_prog.specs.Form as form
 use Rattle.nr_prog.specs.BodyNames.{class_text_in, class_text_at, NamesClassBy, object, IsClassOf}
 use Rattle.nr_prog.specs.BodyMaps.{class_type, type_of, this_type, receiver, IsEntry}
-use Rattle.nr_prog.proofs.LegalLaws.{class_is, of_class, method_only}
+use Rattle.nr_prog.proofs.LegalLaws.{of_class, method_only}
 use Rattle.nr_prog.specs.TextForms.{class_desc}
 use Rattle.nr_instrs.specs.NameTests.{class_desc_at}
 use Rattle.nr_instrs.proofs.ClassDescs.{class_desc_is, class_desc_of}

@@ -1,15 +1,13 @@
 -- The types of the parameters of a method, as a class keeps them.
-use Rattle.std.proofs.Common.{◌≡◌, ℕ, List, [], Option, Some, None, Result, Ok, Err, map, sym, ap, refl, ◌∙◌}
-use Rattle.std.specs.Option.{option_map, option_map_or, unwrap_or}
+use Rattle.std.proofs.Common.{◌≡◌, ℕ, List, [], Option, Some, None, Result, Ok, Err, sym, ap, refl, ◌∙◌}
+use Rattle.std.specs.Option.{option_map_or, unwrap_or}
 use Rattle.nr_base.specs.DescReading.{method_of}
 use Rattle.nr_base.specs.declared.desc.fault.DescFault.{DescFault}
 use Rattle.nr_base.specs.declared.desc.types.MethodDesc.{MethodDesc}
-use Rattle.nr_prog.specs.declared.pool.PoolEntry.{PoolEntry}
 use Rattle.nr_prog.specs.declared.member.Method.{Method}
 use Rattle.nr_prog.specs.declared.parts.ClassParts.{ClassParts}
 use Rattle.nr_prog.specs.declared.body.frame_map.MapType.{MapType}
 use Rattle.nr_prog.specs.declared.text.TextForm.{TextForm}
-use Rattle.nr_prog.specs.Pool.{text_at}
 use Rattle.nr_prog.specs.TextForms.{method_form, form_of, form_at}
 use Rattle.nr_prog.proofs.FormTests.{part}
 use Rattle.nr_code.specs.EntryForms.{params_in, listed_params}
