@@ -1,5 +1,5 @@
 -- Faults of small methods, worked out by hand: the first check that fails, with its offset, depth and types.
-use Rattle.std.specs.Prelude.{◌≡◌, ℕ, pos, List, [], ◌∷◌, length, map, false, Option, Some, None, codes}
+use Rattle.std.specs.Prelude.{◌≡◌, ℕ, pos, List, [], ◌∷◌, map, false, Option, Some, None, codes}
 use Rattle.std.specs.Option.{option_map_or}
 use Rattle.nr_optable.specs.declared.table.Row.{Row}
 use Rattle.nr_optable.specs.declared.table.Family.TheVariants.{F1}

@@ -1,4 +1,3 @@
-use Rattle.std.proofs.Common.{refl}
 use Rattle.nr_typelaws.proofs.ByHandFaults.{all_told}
 use Rattle.nr_typelaws.proofs.law.faults_by_hand.Goals as goal
 
