@@ -1,0 +1,15 @@
+use Rattle.std.specs.Prelude.{length}
+use Rattle.nr_model.specs.ValueRules.{conversion}
+use Rattle.nr_step.specs.Windows.{window}
+use Rattle.nr_step.proofs.NumberRules.{int_narrowing_rule}
+use Rattle.nr_step.proofs.Rows.{begin_by, go_on_by}
+use Rattle.nr_step.proofs.instructions.numbers.int_narrowing.Goals as goal
+
+pub narrowed_int-requires-clause-can : goal.narrowed_int-requires-clause-can
+narrowed_int-requires-clause-can c =
+    let can = c.requires.can in
+    (can.3, can.4, begin_by can.0 can.1 c.args.i.now can.2 (window can.3 can.4 c.args.stack.now c.args.depth.now) (length c.args.stack.now) (conversion c.args.code) (int_narrowing_rule can.0 can.1 c.args.i.now can.2 c.args.code c.requires.row c.requires.code) can.5)
+
+pub returns-clause-next : goal.returns-clause-next
+returns-clause-next c = λ P own found h ls.
+    go_on_by P own c.args.i.now found (window h ls c.args.stack.now c.args.depth.now) (window h ls c.narrowed_int.new.stack c.narrowed_int.new.depth) (conversion c.args.code) (int_narrowing_rule P own c.args.i.now found c.args.code c.requires.row c.requires.code) (c.narrowed_int.ensures.leads h ls)

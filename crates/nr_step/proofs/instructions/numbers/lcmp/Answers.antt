@@ -1,0 +1,15 @@
+use Rattle.std.specs.Prelude.{length}
+use Rattle.nr_model.specs.ValueRules.{comparison}
+use Rattle.nr_step.specs.Windows.{window}
+use Rattle.nr_step.proofs.NumberRules.{lcmp_rule}
+use Rattle.nr_step.proofs.Rows.{begin_by, go_on_by}
+use Rattle.nr_step.proofs.instructions.numbers.lcmp.Goals as goal
+
+pub compared_longs-requires-clause-can : goal.compared_longs-requires-clause-can
+compared_longs-requires-clause-can c =
+    let can = c.requires.can in
+    (can.3, can.4, begin_by can.0 can.1 c.args.i.now can.2 (window can.3 can.4 c.args.stack.now c.args.depth.now) (length c.args.stack.now) comparison (lcmp_rule can.0 can.1 c.args.i.now can.2 c.requires.row) can.5)
+
+pub returns-clause-next : goal.returns-clause-next
+returns-clause-next c = λ P own found h ls.
+    go_on_by P own c.args.i.now found (window h ls c.args.stack.now c.args.depth.now) (window h ls c.compared_longs.new.stack c.compared_longs.new.depth) comparison (lcmp_rule P own c.args.i.now found c.requires.row) (c.compared_longs.ensures.leads h ls)

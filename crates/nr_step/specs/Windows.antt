@@ -1,0 +1,50 @@
+-- How the values of a frame are seen: the locals, and of the operands those in use, the topmost first.
+use Rattle.std.specs.Prelude.{◌≡◌, ℕ, zero, suc, ◌<◌, List, [], ◌∷◌, Option, Some, None, slice_index_or}
+use Rattle.nr_model.specs.declared.value.Value.{Value}
+use Rattle.nr_model.specs.declared.value.Value.TheVariants.{Null, Ref}
+use Rattle.nr_model.specs.Heaps.{Heap, cells}
+use Rattle.nr_model.specs.Outcomes.{max_cells}
+use Rattle.nr_model.specs.Scripts.{Script, GoTo, Within, Ending, Runs, Threw, OnTop, OnInt, OnLong, OnReference}
+
+abbrev pub top_first : List Value → ℕ → List Value
+top_first stack zero = []
+top_first stack (suc d) = slice_index_or stack d Null ∷ top_first stack d
+
+-- what an instruction works on, with nothing printed yet
+abbrev pub view : Heap → List Value → List Value → Within
+view h locals operands = record { heap = h; locals = locals; operands = operands; printed = [] }
+
+-- the same, where so many operands of the stack are in use
+abbrev pub window : Heap → List Value → List Value → ℕ → Within
+window h locals stack d = view h locals (top_first stack d)
+
+abbrev pub IntOnTop : List Value → Type 0
+IntOnTop vs = OnTop vs (λ v us. OnInt v (λ n. Unit {0}))
+
+abbrev pub LongOnTop : List Value → Type 0
+LongOnTop vs = OnTop vs (λ v us. OnLong v (λ n. Unit {0}))
+
+abbrev pub ReferenceOnTop : List Value → Type 0
+ReferenceOnTop vs = OnTop vs (λ v us. OnReference v (λ r. Unit {0}))
+
+-- null, or the reference to the object of this name
+abbrev pub reference_to : Option ℕ → Value
+reference_to None = Null
+reference_to (Some a) = Ref a
+
+-- a script that begins so has a run, with something after it
+abbrev pub CanBegin : (Script → Script) → Within → Type 0
+CanBegin F w = (k : Script) × (e : Ending) × (v : Within) × Runs (F k) w e v
+
+-- what goes on from v goes on after F from w
+abbrev pub Leads : (Script → Script) → Within → Within → Type 0
+Leads F w v = (k : Script) (e : Ending) (u : Within) → Runs k v e u → Runs (F k) w e u
+
+-- F throws the object of this name from w, whatever would follow, and leaves the heap h; what operands are left is no
+-- matter
+abbrev pub Throws : (Script → Script) → Within → ℕ → Heap → Type 0
+Throws F w a h = (k : Script) → (u : Within) × Runs (F k) w (Threw a) u × (u.heap ≡ h) × (u.printed ≡ [])
+
+-- each run of F from w leaves more cells than a heap may have
+abbrev pub Fills : (Script → Script) → Within → Type 0
+Fills F w = (n : ℕ) (e : Ending) (u : Within) → Runs (F (GoTo n)) w e u → max_cells < cells u.heap

@@ -1,0 +1,4 @@
+//! The instructions, each with its whole rule: what the model's script at its site does.
+
+pub mod constants;
+pub mod numbers;
