@@ -104,4 +104,4 @@ null_rows = refl
 pub null_rule : (P : ProgramTables) (own : MethodInfo) (i : Instr) (found : Resolved) → IsRowOf 1 i.row → IsRule P own i found (Push PlainNull)
 null_rule P own i found r = λ n.
     ap (λ f. rule f P own i.row i.args found (onward n))
-      (of_F7 i.row.family (each_row (λ r. r.code == 1) (λ r. is_F7 r.family) null_rows i.row r.listed (ap (λ c. c == 1) r.code)))
+    (of_F7 i.row.family (each_row (λ r. r.code == 1) (λ r. is_F7 r.family) null_rows i.row r.listed (ap (λ c. c == 1) r.code)))

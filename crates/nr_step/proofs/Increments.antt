@@ -15,4 +15,4 @@ pub incremented : (h : Heap) (ls ops : List Value) (i : ℕ) (by n m : ℤ) → 
     → Leads (increment i by) (view h ls ops) (view h (slice_set ls i (Int m)) ops)
 incremented h ls ops i by n m q s = λ k e u r.
     subst (λ g. IsSomeAnd g (λ v. OnInt v (λ n. IsIn i ls × Runs k (view h (slice_set ls i (Int (add w32 n by))) ops) e u))) (sym q)
-      (slice_get_within ls i (Int n) q, subst (λ m. Runs k (view h (slice_set ls i (Int m)) ops) e u) s r)
+    (slice_get_within ls i (Int n) q, subst (λ m. Runs k (view h (slice_set ls i (Int m)) ops) e u) s r)

@@ -65,7 +65,7 @@ pub int_pair_rule : (P : ProgramTables) (own : MethodInfo) (i : Instr) (found : 
     → IsRule P own i found (two_operands code)
 int_pair_rule P own i found code r s = λ n.
     ap (λ f. rule f P own i.row i.args found (onward n))
-      (of_F5 i.row.family (each_row (λ r. is_some (int_operation r.code)) (λ r. is_F5 r.family) int_pair_rows i.row r.listed (ap (λ c. is_some (int_operation c)) r.code ∙ s)))
+    (of_F5 i.row.family (each_row (λ r. is_some (int_operation r.code)) (λ r. is_F5 r.family) int_pair_rows i.row r.listed (ap (λ c. is_some (int_operation c)) r.code ∙ s)))
     ∙ ap (λ c. two_operands c (onward n)) r.code
 
 long_pair_rows : list_all (λ (r : Row). not (is_some (long_operation r.code)) || is_F5 r.family) all_rows ≡ true
@@ -76,7 +76,7 @@ pub long_pair_rule : (P : ProgramTables) (own : MethodInfo) (i : Instr) (found :
     → IsRule P own i found (two_operands code)
 long_pair_rule P own i found code r s = λ n.
     ap (λ f. rule f P own i.row i.args found (onward n))
-      (of_F5 i.row.family (each_row (λ r. is_some (long_operation r.code)) (λ r. is_F5 r.family) long_pair_rows i.row r.listed (ap (λ c. is_some (long_operation c)) r.code ∙ s)))
+    (of_F5 i.row.family (each_row (λ r. is_some (long_operation r.code)) (λ r. is_F5 r.family) long_pair_rows i.row r.listed (ap (λ c. is_some (long_operation c)) r.code ∙ s)))
     ∙ ap (λ c. two_operands c (onward n)) r.code
 
 int_shift_rows : list_all (λ (r : Row). not (is_some (int_shift r.code)) || is_F22 r.family) all_rows ≡ true
@@ -87,7 +87,7 @@ pub int_shift_rule : (P : ProgramTables) (own : MethodInfo) (i : Instr) (found :
     → IsRule P own i found (shift code)
 int_shift_rule P own i found code r s = λ n.
     ap (λ f. rule f P own i.row i.args found (onward n))
-      (of_F22 i.row.family (each_row (λ r. is_some (int_shift r.code)) (λ r. is_F22 r.family) int_shift_rows i.row r.listed (ap (λ c. is_some (int_shift c)) r.code ∙ s)))
+    (of_F22 i.row.family (each_row (λ r. is_some (int_shift r.code)) (λ r. is_F22 r.family) int_shift_rows i.row r.listed (ap (λ c. is_some (int_shift c)) r.code ∙ s)))
     ∙ ap (λ c. shift c (onward n)) r.code
 
 long_shift_rows : list_all (λ (r : Row). not (is_some (long_shift r.code)) || is_F22 r.family) all_rows ≡ true
@@ -98,7 +98,7 @@ pub long_shift_rule : (P : ProgramTables) (own : MethodInfo) (i : Instr) (found 
     → IsRule P own i found (shift code)
 long_shift_rule P own i found code r s = λ n.
     ap (λ f. rule f P own i.row i.args found (onward n))
-      (of_F22 i.row.family (each_row (λ r. is_some (long_shift r.code)) (λ r. is_F22 r.family) long_shift_rows i.row r.listed (ap (λ c. is_some (long_shift c)) r.code ∙ s)))
+    (of_F22 i.row.family (each_row (λ r. is_some (long_shift r.code)) (λ r. is_F22 r.family) long_shift_rows i.row r.listed (ap (λ c. is_some (long_shift c)) r.code ∙ s)))
     ∙ ap (λ c. shift c (onward n)) r.code
 
 int_narrowing_rows : list_all (λ (r : Row). not (is_some (int_narrowing r.code)) || is_F23 r.family) all_rows ≡ true
@@ -109,7 +109,7 @@ pub int_narrowing_rule : (P : ProgramTables) (own : MethodInfo) (i : Instr) (fou
     → IsRule P own i found (conversion code)
 int_narrowing_rule P own i found code r s = λ n.
     ap (λ f. rule f P own i.row i.args found (onward n))
-      (of_F23 i.row.family (each_row (λ r. is_some (int_narrowing r.code)) (λ r. is_F23 r.family) int_narrowing_rows i.row r.listed (ap (λ c. is_some (int_narrowing c)) r.code ∙ s)))
+    (of_F23 i.row.family (each_row (λ r. is_some (int_narrowing r.code)) (λ r. is_F23 r.family) int_narrowing_rows i.row r.listed (ap (λ c. is_some (int_narrowing c)) r.code ∙ s)))
     ∙ ap (λ c. conversion c (onward n)) r.code
 
 ineg_rows : list_all (λ (r : Row). not (r.code == 116) || is_F21 r.family) all_rows ≡ true
@@ -119,7 +119,7 @@ ineg_rows = refl
 pub ineg_rule : (P : ProgramTables) (own : MethodInfo) (i : Instr) (found : Resolved) → IsRowOf 116 i.row → IsRule P own i found (negation 116)
 ineg_rule P own i found r = λ n.
     ap (λ f. rule f P own i.row i.args found (onward n))
-      (of_F21 i.row.family (each_row (λ r. r.code == 116) (λ r. is_F21 r.family) ineg_rows i.row r.listed (ap (λ c. c == 116) r.code)))
+    (of_F21 i.row.family (each_row (λ r. r.code == 116) (λ r. is_F21 r.family) ineg_rows i.row r.listed (ap (λ c. c == 116) r.code)))
     ∙ ap (λ c. negation c (onward n)) r.code
 
 lneg_rows : list_all (λ (r : Row). not (r.code == 117) || is_F21 r.family) all_rows ≡ true
@@ -129,7 +129,7 @@ lneg_rows = refl
 pub lneg_rule : (P : ProgramTables) (own : MethodInfo) (i : Instr) (found : Resolved) → IsRowOf 117 i.row → IsRule P own i found (negation 117)
 lneg_rule P own i found r = λ n.
     ap (λ f. rule f P own i.row i.args found (onward n))
-      (of_F21 i.row.family (each_row (λ r. r.code == 117) (λ r. is_F21 r.family) lneg_rows i.row r.listed (ap (λ c. c == 117) r.code)))
+    (of_F21 i.row.family (each_row (λ r. r.code == 117) (λ r. is_F21 r.family) lneg_rows i.row r.listed (ap (λ c. c == 117) r.code)))
     ∙ ap (λ c. negation c (onward n)) r.code
 
 i2l_rows : list_all (λ (r : Row). not (r.code == 133) || is_F23 r.family) all_rows ≡ true
@@ -139,7 +139,7 @@ i2l_rows = refl
 pub i2l_rule : (P : ProgramTables) (own : MethodInfo) (i : Instr) (found : Resolved) → IsRowOf 133 i.row → IsRule P own i found (conversion 133)
 i2l_rule P own i found r = λ n.
     ap (λ f. rule f P own i.row i.args found (onward n))
-      (of_F23 i.row.family (each_row (λ r. r.code == 133) (λ r. is_F23 r.family) i2l_rows i.row r.listed (ap (λ c. c == 133) r.code)))
+    (of_F23 i.row.family (each_row (λ r. r.code == 133) (λ r. is_F23 r.family) i2l_rows i.row r.listed (ap (λ c. c == 133) r.code)))
     ∙ ap (λ c. conversion c (onward n)) r.code
 
 l2i_rows : list_all (λ (r : Row). not (r.code == 136) || is_F23 r.family) all_rows ≡ true
@@ -149,7 +149,7 @@ l2i_rows = refl
 pub l2i_rule : (P : ProgramTables) (own : MethodInfo) (i : Instr) (found : Resolved) → IsRowOf 136 i.row → IsRule P own i found (conversion 136)
 l2i_rule P own i found r = λ n.
     ap (λ f. rule f P own i.row i.args found (onward n))
-      (of_F23 i.row.family (each_row (λ r. r.code == 136) (λ r. is_F23 r.family) l2i_rows i.row r.listed (ap (λ c. c == 136) r.code)))
+    (of_F23 i.row.family (each_row (λ r. r.code == 136) (λ r. is_F23 r.family) l2i_rows i.row r.listed (ap (λ c. c == 136) r.code)))
     ∙ ap (λ c. conversion c (onward n)) r.code
 
 lcmp_rows : list_all (λ (r : Row). not (r.code == 148) || is_F24 r.family) all_rows ≡ true
@@ -159,4 +159,4 @@ lcmp_rows = refl
 pub lcmp_rule : (P : ProgramTables) (own : MethodInfo) (i : Instr) (found : Resolved) → IsRowOf 148 i.row → IsRule P own i found comparison
 lcmp_rule P own i found r = λ n.
     ap (λ f. rule f P own i.row i.args found (onward n))
-      (of_F24 i.row.family (each_row (λ r. r.code == 148) (λ r. is_F24 r.family) lcmp_rows i.row r.listed (ap (λ c. c == 148) r.code)))
+    (of_F24 i.row.family (each_row (λ r. r.code == 148) (λ r. is_F24 r.family) lcmp_rows i.row r.listed (ap (λ c. c == 148) r.code)))

@@ -10,8 +10,8 @@ ghost use Rattle.nr_step.specs.Windows.{CanBegin, Leads, top_first, window};
 mod copies;
 
 use copies::{
-    copy_one, copy_one_below_one, copy_one_below_two, copy_two, copy_two_below_one, copy_two_below_two,
-    exchange, is_long_at, take_one, take_two,
+    copy_one, copy_one_below_one, copy_one_below_two, copy_two, copy_two_below_one,
+    copy_two_below_two, exchange, is_long_at, take_one, take_two,
 };
 use nr_model::Value;
 

@@ -12,4 +12,4 @@ pub returns-clause-leads : goal.returns-clause-leads
 returns-clause-leads c = λ h ls.
     let can = c.requires.can in
     leads_single 0 (Pick 0) (window h ls c.args.stack.now c.args.depth.now) (window h ls c.copy_one.new.stack c.copy_one.new.depth)
-      (begins_single 0 (Pick 0) (window can.0 can.1 c.args.stack.now c.args.depth.now) can.2).0 (c.copy_one.ensures.leads h ls)
+    (begins_single 0 (Pick 0) (window can.0 can.1 c.args.stack.now c.args.depth.now) can.2).0 (c.copy_one.ensures.leads h ls)

@@ -4,11 +4,13 @@ use Rattle.nr_step.proofs.ConstantRules.{null_rule, push_fits, pushed}
 use Rattle.nr_step.proofs.Rows.{go_on_by}
 use Rattle.nr_step.proofs.instructions.constants.aconst_null.Goals as goal
 
-pub null-requires-clause-room : goal.null-requires-clause-room
-null-requires-clause-room c =
+pub null-requires : goal.null-requires
+null-requires c =
     let can = c.requires.can in
-    push_fits can.0 can.1 c.args.i.now can.2 can.3 can.4 c.args.stack.now c.args.depth.now (Push PlainNull) (null_rule can.0 can.1 c.args.i.now can.2 c.requires.row)
-      (pushed PlainNull (window can.3 can.4 c.args.stack.now c.args.depth.now)) can.5
+    record {
+      room = push_fits can.0 can.1 c.args.i.now can.2 can.3 can.4 c.args.stack.now c.args.depth.now (Push PlainNull) (null_rule can.0 can.1 c.args.i.now can.2 c.requires.row)
+          (pushed PlainNull (window can.3 can.4 c.args.stack.now c.args.depth.now)) can.5;
+    }
 
 pub returns-clause-next : goal.returns-clause-next
 returns-clause-next c = λ P own found h ls.

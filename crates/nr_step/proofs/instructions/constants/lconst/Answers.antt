@@ -10,7 +10,7 @@ pub small_long-requires-clause-room : goal.small_long-requires-clause-room
 small_long-requires-clause-room c =
     let can = c.requires.can in
     push_fits can.0 can.1 c.args.i.now can.2 can.3 can.4 c.args.stack.now c.args.depth.now (small_constant c.args.code args.Empty) (small_rule can.0 can.1 c.args.i.now can.2 c.args.code c.requires.row (omega (arith, c.requires.low)) c.requires.high c.requires.shaped)
-      (small_pushed c.args.code (window can.3 can.4 c.args.stack.now c.args.depth.now)) can.5
+    (small_pushed c.args.code (window can.3 can.4 c.args.stack.now c.args.depth.now)) can.5
 
 pub returns-clause-next : goal.returns-clause-next
 returns-clause-next c = λ P own found h ls.
