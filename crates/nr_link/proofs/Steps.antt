@@ -33,11 +33,13 @@ both_below n (x ∷ xs) ys e f = let p = and_parts (nat_lt x n) (are_below n xs)
 
 below : (n s : ℕ) (ss : List ℕ) → are_below n ss ≡ true → IsTrue (list_any (λ t. t == s) ss) → s < n
 below n s [] e h = absurd cc
-below n s (t ∷ ss) e h = by_test (t == s) refl (and_parts (nat_lt t n) (are_below n ss) e) h
+below n s (t ∷ ss) e h =
+    by_test (t == s) refl (and_parts (nat_lt t n) (are_below n ss) e) h (λ others among. below n s ss others among)
   where
-    by_test : (b : Bool) → (t == s) ≡ b → (nat_lt t n ≡ true) × (are_below n ss ≡ true) → IsTrue (b || list_any (λ t. t == s) ss) → s < n
-    by_test true is p h = subst (λ s. s < n) (eqb-true t s is) (ltb-true t n p.0)
-    by_test false is p h = below n s ss p.1 h
+    by_test : (b : Bool) → (t == s) ≡ b → (nat_lt t n ≡ true) × (are_below n ss ≡ true) → IsTrue (b || list_any (λ t. t == s) ss)
+        → (are_below n ss ≡ true → IsTrue (list_any (λ t. t == s) ss) → s < n) → s < n
+    by_test true is p h others = subst (λ s. s < n) (eqb-true t s is) (ltb-true t n p.0)
+    by_test false is p h others = others p.1 h
 
 abbrev is_short : ℕ → ClassInfo → Bool
 is_short n e = are_below n (option_to_list e.super_class ++ e.interfaces)
