@@ -1,4 +1,0 @@
-pub mod Methods
-pub mod Suits
-pub mod Searching
-pub mod Within

@@ -1,7 +1,0 @@
-pub mod Answers
-pub mod Sites
-pub mod Halves
-pub mod Arrays
-pub mod Closed
-pub mod Listed
-pub mod InPlace
