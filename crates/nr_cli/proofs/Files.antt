@@ -5,7 +5,7 @@ use Rattle.std.proofs.lemmas.Bool.{cases_lt, lt-leb}
 use Rattle.std.proofs.lemmas.List.{take_all, length-take}
 use Rattle.nr_outside.specs.Folder.{Reads}
 use Rattle.nr_cli.specs.Plan.{file_class, with_len, loaded_at}
-use Rattle.nr_prog.specs.declared.parts.ClassParts.{ClassParts}
+use Rattle.nr_prog.specs.declared.body.loaded.Loaded.{Loaded}
 use Rattle.nr_cli.specs.declared.ending.End.{End}
 use Rattle.nr_cli.specs.declared.ending.End.TheVariants.{Memory, Folder}
 
@@ -25,6 +25,6 @@ class_read : (path : List ℕ) (file : Option (List ℕ)) (bytes : Vec ℕ Globa
 class_read path None bytes h = absurd h
 class_read path (Some whole) bytes h = cut path bytes.items whole h
 
-pub loaded : (path : List ℕ) (file : Option (List ℕ)) (bytes : Vec ℕ Global) (slice : List ℕ) (r : Result (ClassParts × ℕ) End) → Reads file 1048577 (Ok bytes) → slice ≡ bytes.items → (r ≡ Err Memory) ⊎ (r ≡ with_len (length slice) (file_class path slice)) → (r ≡ Err Memory) ⊎ (r ≡ Err Folder) ⊎ (r ≡ loaded_at path file)
+pub loaded : (path : List ℕ) (file : Option (List ℕ)) (bytes : Vec ℕ Global) (slice : List ℕ) (r : Result (Loaded × ℕ) End) → Reads file 1048577 (Ok bytes) → slice ≡ bytes.items → (r ≡ Err Memory) ⊎ (r ≡ with_len (length slice) (file_class path slice)) → (r ≡ Err Memory) ⊎ (r ≡ Err Folder) ⊎ (r ≡ loaded_at path file)
 loaded path file bytes slice r h same (inl e) = inl e
 loaded path file bytes slice r h same (inr e) = inr (inr (e ∙ ap (λ z. with_len (length z) (file_class path z)) same ∙ class_read path file bytes h))

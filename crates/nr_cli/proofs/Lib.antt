@@ -5,7 +5,9 @@ pub mod Files
 pub mod Listed
 pub mod Parts
 pub mod Runnable
+pub mod Fields
 pub mod Runs
+pub mod OwnFaults
 pub mod Ends
 pub mod Readers
 pub mod FileReading

@@ -7,27 +7,27 @@ use Rattle.std.specs.declared.string.String.{String}
 use Rattle.std.proofs.lemmas.Bool.{cases_lt, lt-leb}
 use Rattle.std.proofs.lemmas.List.{append-nil, drop_all}
 use Rattle.nr_outside.specs.Folder.{ToldFile, file_at}
-use Rattle.nr_prog.specs.declared.parts.ClassParts.{ClassParts}
+use Rattle.nr_prog.specs.declared.body.loaded.Loaded.{Loaded}
 use Rattle.nr_cli.specs.Words.{Command}
-use Rattle.nr_cli.specs.Loading.{kept_with, IsNext, IsLoaded}
+use Rattle.nr_cli.specs.Loading.{IsNext, IsRead}
 use Rattle.nr_cli.specs.Plan.{loaded_at, and_then_all, all_loaded, judged, last_end, folder_end, loaded_end, reads, are_listed}
 use Rattle.nr_cli.specs.declared.ending.End.{End}
 use Rattle.nr_cli.specs.declared.ending.End.TheVariants.{Memory, Folder}
 
 abbrev All : Type 0
-All = Result (List ClassParts × ℕ) End
+All = Result (List Loaded × ℕ) End
 
 -- what the files before and those from here on give together
-abbrev onto : List ClassParts → ℕ → All → All
+abbrev onto : List Loaded → ℕ → All → All
 onto done sum (Ok x) = Ok (done ++ x.0, sum + x.1)
 onto done sum (Err end) = Err end
 
 -- The files at the paths before were read, and the others give the total.
-pub record Walk (dir : List ℕ) (files : List ToldFile) (total : All) (rest : List (List ℕ)) (kept : List ClassParts) (len : ℕ) : Type 0 where
-  pub done : List ClassParts
+pub record Walk (dir : List ℕ) (files : List ToldFile) (total : All) (rest : List (List ℕ)) (kept : List Loaded) (len : ℕ) : Type 0 where
+  pub done : List Loaded
   pub sum : ℕ
   pub rest_gives : onto done sum (all_loaded dir files rest) ≡ total
-  pub first : kept ≡ take 2 done
+  pub whole : len ≤ 67108864 → kept ≡ done
   pub lens : len ≡ min sum 67108865
 
 same : (total : All) → onto [] 0 total ≡ total
@@ -38,30 +38,27 @@ same (Ok x) = λ i. Ok (x.0, zero_plus x.1 i)
 same (Err end) = refl
 
 pub begins : (dir : List ℕ) (files : List ToldFile) (paths : List (List ℕ)) → Walk dir files (all_loaded dir files paths) paths [] 0
-begins dir files paths = record { done = []; sum = 0; rest_gives = same (all_loaded dir files paths); first = refl; lens = refl }
+begins dir files paths = record { done = []; sum = 0; rest_gives = same (all_loaded dir files paths); whole = λ few. refl; lens = refl }
 
-one_more : (done : List ClassParts) (sum : ℕ) (class : ClassParts) (len : ℕ) (others : All) → onto done sum (and_then_all (Ok (class, len)) others) ≡ onto (done ++ class ∷ []) (sum + len) others
+one_more : (done : List Loaded) (sum : ℕ) (class : Loaded) (len : ℕ) (others : All) → onto done sum (and_then_all (Ok (class, len)) others) ≡ onto (done ++ class ∷ []) (sum + len) others
 one_more done sum class len (Ok x) = λ i. Ok (sym (append_assoc done (class ∷ []) x.0) i, sym (add_assoc sum len x.1) i)
 one_more done sum class len (Err end) = refl
 
-keeps : (done : List ClassParts) (class : ClassParts) → kept_with (take 2 done) class ≡ take 2 (done ++ class ∷ [])
-keeps [] class = refl
-keeps (x ∷ []) class = refl
-keeps (x ∷ y ∷ done) class = refl
-
-pub walks_on : (dir : List ℕ) (files : List ToldFile) (total : All) (path : List ℕ) (after : List (List ℕ)) (kept more : List ClassParts) (len next : ℕ)
+pub walks_on : (dir : List ℕ) (files : List ToldFile) (total : All) (path : List ℕ) (after : List (List ℕ)) (kept more : List Loaded) (len next : ℕ)
     → IsNext (loaded_at path (file_at dir path files)) kept len more next → Walk dir files total (path ∷ after) kept len → Walk dir files total after more next
 walks_on dir files total path after kept more len next n w = record {
-  done = w.done ++ n.class ∷ [];
+  done = w.done ++ n.loaded ∷ [];
   sum = w.sum + n.len;
   rest_gives =
-      sym (one_more w.done w.sum n.class n.len (all_loaded dir files after))
+      sym (one_more w.done w.sum n.loaded n.len (all_loaded dir files after))
       ∙ sym (ap (λ z. onto w.done w.sum (and_then_all z (all_loaded dir files after))) n.is) ∙ w.rest_gives;
-  first = n.classes ∙ ap (λ z. kept_with z n.class) w.first ∙ keeps w.done n.class;
+  whole = λ few.
+      let fewer : len ≤ 67108864 = omega (arith, n.lens, few) in
+      n.classes few ∙ ap (λ z. z ++ n.loaded ∷ []) (w.whole fewer);
   lens = omega (arith, n.lens, w.lens);
 }
 
-pub stops : (dir : List ℕ) (files : List ToldFile) (total : All) (path : List ℕ) (after : List (List ℕ)) (kept : List ClassParts) (len : ℕ) (end : End)
+pub stops : (dir : List ℕ) (files : List ToldFile) (total : All) (path : List ℕ) (after : List (List ℕ)) (kept : List Loaded) (len : ℕ) (end : End)
     → Walk dir files total (path ∷ after) kept len → (end ≡ Memory) ⊎ (end ≡ Folder) ⊎ (loaded_at path (file_at dir path files) ≡ Err end)
     → (end ≡ Memory) ⊎ (end ≡ Folder) ⊎ (total ≡ Err end)
 stops dir files total path after kept len end w (inl e) = inl e
@@ -69,12 +66,12 @@ stops dir files total path after kept len end w (inr (inl e)) = inr (inl e)
 stops dir files total path after kept len end w (inr (inr e)) =
     inr (inr (sym w.rest_gives ∙ ap (λ z. onto w.done w.sum (and_then_all z (all_loaded dir files after))) e))
 
-pub ends : (dir : List ℕ) (files : List ToldFile) (total : All) (kept : List ClassParts) (len : ℕ) → Walk dir files total [] kept len → IsLoaded total kept len
+pub ends : (dir : List ℕ) (files : List ToldFile) (total : All) (kept : List Loaded) (len : ℕ) → Walk dir files total [] kept len → IsRead total kept len
 ends dir files total kept len w = record {
   classes = w.done;
   sum = w.sum;
   is = sym w.rest_gives ∙ (λ i. Ok (append-nil w.done i, plus_zero w.sum i));
-  first = w.first;
+  whole = w.whole;
   lens = w.lens;
 }
   where
@@ -83,35 +80,23 @@ ends dir files total kept len w = record {
 
 -- ---- what is kept is enough
 
-judged_first : (c : Command) (paths : List (List ℕ)) (classes : List ClassParts) → judged c paths (take 2 classes) ≡ judged c paths classes
-judged_first c [] [] = refl
-judged_first c [] (x ∷ []) = refl
-judged_first c [] (x ∷ y ∷ classes) = refl
-judged_first c (p ∷ []) [] = refl
-judged_first c (p ∷ []) (x ∷ []) = refl
-judged_first c (p ∷ []) (x ∷ y ∷ classes) = refl
-judged_first c (p ∷ q ∷ paths) [] = refl
-judged_first c (p ∷ q ∷ paths) (x ∷ []) = refl
-judged_first c (p ∷ q ∷ paths) (x ∷ y ∷ classes) = refl
-
-capped : (sum : ℕ) → leb (min sum 67108865) 67108864 ≡ leb sum 67108864
-capped sum =
+-- too long together or not
+by_length : (c : Command) (paths : List (List ℕ)) (kept classes : List Loaded) (len sum : ℕ) → len ≡ min sum 67108865 → (len ≤ 67108864 → kept ≡ classes)
+    → folder_end c paths len kept ≡ folder_end c paths sum classes
+by_length c paths kept classes len sum lens whole =
     elim (cases_lt 67108864 sum) [
       | inl lt ↦
-          let long : 67108864 < min sum 67108865 = omega arith in
-          lt-leb (min sum 67108865) 67108864 long ∙ sym (lt-leb sum 67108864 lt)
+          let long : 67108864 < len = omega (arith, lens) in
+          rw (lt-leb len 67108864 long, lt-leb sum 67108864 lt) refl
       | inr le ↦
-          let whole : min sum 67108865 ≡ sum = omega arith in
-          ap (λ z. leb z 67108864) whole
+          let same : len ≡ sum = omega (arith, lens) in
+          let few : len ≤ 67108864 = omega (arith, lens) in
+          λ i. folder_end c paths (same i) (whole few i)
     ]
 
-pub loaded_is : (c : Command) (paths : List (List ℕ)) (total : All) (kept : List ClassParts) (len : ℕ) → IsLoaded total kept len → folder_end c paths len kept ≡ loaded_end c paths total
-loaded_is c paths total kept len l =
-    let last = last_end c (slice_get paths (length paths - 1)) in
-    ap (λ z. cond (leb z 67108864) (judged c paths kept) last) l.lens
-    ∙ ap (λ b. cond b (judged c paths kept) last) (capped l.sum)
-    ∙ ap (λ z. cond (leb l.sum 67108864) z last) (ap (judged c paths) l.first ∙ judged_first c paths l.classes)
-    ∙ sym (ap (loaded_end c paths) l.is)
+pub read_is : (c : Command) (paths : List (List ℕ)) (total : All) (kept : List Loaded) (len : ℕ) → IsRead total kept len → folder_end c paths len kept ≡ loaded_end c paths total
+read_is c paths total kept len l =
+    by_length c paths kept l.classes len l.sum l.lens l.whole ∙ sym (ap (loaded_end c paths) l.is)
 
 -- ---- the same at a place of the paths, as the program holds them
 
@@ -122,7 +107,7 @@ rest_at : (paths : List (String Global)) (i : ℕ) (path : String Global) → i 
 rest_at paths i path lt is = rw (add-one i) (drop-cons paths i path lt ∙ ap (λ z. z ∷ drop (suc i) paths) (sym is))
 
 -- `name` and `told` are the path and the files, as a call was told them
-pub walks_at : (dir name : List ℕ) (files told : List ToldFile) (total : All) (paths : List (String Global)) (i : ℕ) (path : String Global) (kept more : List ClassParts) (len next : ℕ)
+pub walks_at : (dir name : List ℕ) (files told : List ToldFile) (total : All) (paths : List (String Global)) (i : ℕ) (path : String Global) (kept more : List Loaded) (len next : ℕ)
     → i < length paths → path ≡ get_or paths i path → name ≡ string_bytes path → told ≡ files → IsNext (loaded_at name (file_at dir name told)) kept len more next
     → Walk dir files total (bytes_of (drop i paths)) kept len → Walk dir files total (bytes_of (drop (i + 1) paths)) more next
 walks_at dir name files told total paths i path kept more len next lt is named same n w =
@@ -131,7 +116,7 @@ walks_at dir name files told total paths i path kept more len next lt is named s
     (subst (λ z. IsNext (loaded_at z (file_at dir z told)) kept len more next) named n))
     (subst (λ z. Walk dir files total (bytes_of z) kept len) (rest_at paths i path lt is) w)
 
-pub stops_at : (dir name : List ℕ) (files told : List ToldFile) (total : All) (paths : List (String Global)) (i : ℕ) (path : String Global) (kept : List ClassParts) (len : ℕ) (end : End)
+pub stops_at : (dir name : List ℕ) (files told : List ToldFile) (total : All) (paths : List (String Global)) (i : ℕ) (path : String Global) (kept : List Loaded) (len : ℕ) (end : End)
     → i < length paths → path ≡ get_or paths i path → name ≡ string_bytes path → told ≡ files → Walk dir files total (bytes_of (drop i paths)) kept len
     → (end ≡ Memory) ⊎ (end ≡ Folder) ⊎ (loaded_at name (file_at dir name told) ≡ Err end)
     → (end ≡ Memory) ⊎ (end ≡ Folder) ⊎ (total ≡ Err end)
@@ -141,8 +126,8 @@ stops_at dir name files told total paths i path kept len end lt is named same w 
     (subst (λ z. (end ≡ Memory) ⊎ (end ≡ Folder) ⊎ (loaded_at (string_bytes path) (file_at dir (string_bytes path) z) ≡ Err end)) same
     (subst (λ z. (end ≡ Memory) ⊎ (end ≡ Folder) ⊎ (loaded_at z (file_at dir z told) ≡ Err end)) named h))
 
-pub ends_at : (dir : List ℕ) (files : List ToldFile) (total : All) (paths : List (String Global)) (i : ℕ) (kept : List ClassParts) (len : ℕ)
-    → length paths ≤ i → Walk dir files total (bytes_of (drop i paths)) kept len → IsLoaded total kept len
+pub ends_at : (dir : List ℕ) (files : List ToldFile) (total : All) (paths : List (String Global)) (i : ℕ) (kept : List Loaded) (len : ℕ)
+    → length paths ≤ i → Walk dir files total (bytes_of (drop i paths)) kept len → IsRead total kept len
 ends_at dir files total paths i kept len le w =
     ends dir files total kept len (subst (λ z. Walk dir files total (bytes_of z) kept len) (drop_all i paths le) w)
 
@@ -165,20 +150,20 @@ listed_here dir name files told paths i path lt is named same e nothing =
 
 -- ---- how many calls are made on the folder
 
-reads_ok : (dir : List ℕ) (files : List ToldFile) (path : List ℕ) (after : List (List ℕ)) (x : ClassParts × ℕ)
+reads_ok : (dir : List ℕ) (files : List ToldFile) (path : List ℕ) (after : List (List ℕ)) (x : Loaded × ℕ)
     → loaded_at path (file_at dir path files) ≡ Ok x → reads dir files (path ∷ after) ≡ 1 + reads dir files after
 reads_ok dir files path after x e = ap (λ z. 1 + cond (is_ok z) (reads dir files after) 0) e
 
 -- one more file was read, and it wasn't refused
-pub reads_on : (dir name : List ℕ) (files told : List ToldFile) (paths : List (String Global)) (i : ℕ) (path : String Global) (kept more : List ClassParts) (len next : ℕ) (before now most : ℕ)
+pub reads_on : (dir name : List ℕ) (files told : List ToldFile) (paths : List (String Global)) (i : ℕ) (path : String Global) (kept more : List Loaded) (len next : ℕ) (before now most : ℕ)
     → i < length paths → path ≡ get_or paths i path → name ≡ string_bytes path → told ≡ files → IsNext (loaded_at name (file_at dir name told)) kept len more next
     → now ≤ before + 1 → before + reads dir files (bytes_of (drop i paths)) ≤ most → now + reads dir files (bytes_of (drop (i + 1) paths)) ≤ most
 reads_on dir name files told paths i path kept more len next before now most lt is named same n call so_far =
-    let read : loaded_at (string_bytes path) (file_at dir (string_bytes path) files) ≡ Ok (n.class, n.len) =
-    subst (λ z. loaded_at (string_bytes path) (file_at dir (string_bytes path) z) ≡ Ok (n.class, n.len)) same
-    (subst (λ z. loaded_at z (file_at dir z told) ≡ Ok (n.class, n.len)) named n.is) in
+    let read : loaded_at (string_bytes path) (file_at dir (string_bytes path) files) ≡ Ok (n.loaded, n.len) =
+    subst (λ z. loaded_at (string_bytes path) (file_at dir (string_bytes path) z) ≡ Ok (n.loaded, n.len)) same
+    (subst (λ z. loaded_at z (file_at dir z told) ≡ Ok (n.loaded, n.len)) named n.is) in
     let one : reads dir files (bytes_of (drop i paths)) ≡ 1 + reads dir files (bytes_of (drop (i + 1) paths)) =
-    ap (λ z. reads dir files (bytes_of z)) (rest_at paths i path lt is) ∙ reads_ok dir files (string_bytes path) (bytes_of (drop (i + 1) paths)) (n.class, n.len) read in
+    ap (λ z. reads dir files (bytes_of z)) (rest_at paths i path lt is) ∙ reads_ok dir files (string_bytes path) (bytes_of (drop (i + 1) paths)) (n.loaded, n.len) read in
     omega arith
 
 -- one more file was read, and it is the last

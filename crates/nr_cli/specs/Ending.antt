@@ -3,16 +3,17 @@ use Rattle.std.specs.Prelude.{◌≡◌, ℕ, List, [], ◌∷◌, ◌++◌, ◌
 use Rattle.std.specs.Fmt.{decimal, signed_decimal}
 use Rattle.nr_outside.specs.Bytes.{AddsPart}
 use Rattle.nr_cli.specs.Spelling.{spelled, spelled_fault}
+use Rattle.nr_cli.specs.Refusals.{spelled_link}
 use Rattle.nr_cli.specs.declared.ending.End.{End}
-use Rattle.nr_cli.specs.declared.ending.End.TheVariants.{Returned, Words, Folder, Class, NoClass, ReservedName, Budget, Memory}
+use Rattle.nr_cli.specs.declared.ending.End.TheVariants.{Returned, Words, Folder, Class, Link, Verify, Budget, Memory}
 
 abbrev pub status_of : End → ℕ
 status_of (Returned n) = 0
 status_of Words = 2
 status_of Folder = 3
 status_of (Class path fault) = 4
-status_of (NoClass name) = 5
-status_of (ReservedName name) = 5
+status_of (Link fault) = 5
+status_of (Verify fault) = 6
 status_of (Budget n) = 9
 status_of Memory = 12
 
@@ -28,8 +29,8 @@ err_of (Returned n) = []
 err_of Words = line (codes "words")
 err_of Folder = line (codes "folder")
 err_of (Class path fault) = line (codes "class " ++ spelled path ++ codes " " ++ spelled_fault fault)
-err_of (NoClass name) = line (codes "link NoClass " ++ spelled name)
-err_of (ReservedName name) = line (codes "link ReservedName " ++ spelled name)
+err_of (Link fault) = line (codes "link " ++ spelled_link fault)
+err_of (Verify fault) = line (codes "verify " ++ fault)
 err_of (Budget n) = line (codes "budget " ++ decimal n)
 err_of Memory = line (codes "memory")
 

@@ -1,6 +1,8 @@
 pub mod Words
 pub mod Order
 pub mod Thin
+pub mod Refusals
+pub mod Programs
 pub mod Run
 pub mod Spelling
 pub mod Ending

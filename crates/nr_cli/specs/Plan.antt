@@ -1,41 +1,18 @@
 -- What the program does with its words over a folder's files. The project's own rules.
 use Rattle.std.specs.Prelude.{◌≢◌, ℕ, ◌+◌, ◌-◌, List, [], ◌∷◌, length, slice_get, Option, None, Some, Result, Ok, Err, cond, nat_le, Bool, true, ◌&&◌, is_some, is_ok}
-use Rattle.std.specs.Str.{bytes_eq}
 use Rattle.nr_outside.specs.Folder.{ToldFile, class_paths, file_at}
-use Rattle.nr_cli.specs.Words.{Command, command_of}
-use Rattle.nr_cli.specs.Order.{in_byte_order}
-use Rattle.nr_cli.specs.Thin.{is_thin, first_other, first_code, is_reserved}
-use Rattle.nr_cli.specs.Run.{run_of}
-use Rattle.nr_prog.specs.BodyNames.{class_text_at}
-use Rattle.nr_prog.specs.declared.member.Code.{Code}
-use Rattle.nr_prog.specs.declared.parts.ClassParts.{ClassParts}
 use Rattle.nr_prog.specs.declared.body.loaded.Loaded.{Loaded}
 use Rattle.nr_code.specs.Decoding.{loaded_of}
 use Rattle.nr_code.specs.declared.fault.LoadFault.{LoadFault}
 use Rattle.nr_code.specs.declared.fault.LoadFault.TheVariants as loads
-use Rattle.nr_cli.specs.declared.machine.Outcome.{Outcome}
-use Rattle.nr_cli.specs.declared.machine.Outcome.TheVariants.{Returned as RunReturned, BudgetSpent}
-use Rattle.nr_cli.specs.declared.ending.LoadFault.TheVariants.{Read, Code as CodeRefused, OutOfThinForm, FileTooLong, FolderTooLong}
+use Rattle.nr_linkrules.specs.declared.fault.LinkFault.TheVariants as links
+use Rattle.nr_cli.specs.Words.{Command, command_of}
+use Rattle.nr_cli.specs.Order.{in_byte_order}
+use Rattle.nr_cli.specs.Programs.{prepared}
+use Rattle.nr_cli.specs.Thin.{main_end}
+use Rattle.nr_cli.specs.declared.ending.LoadFault.TheVariants.{Read, Code as CodeRefused, FileTooLong, FolderTooLong}
 use Rattle.nr_cli.specs.declared.ending.End.{End}
-use Rattle.nr_cli.specs.declared.ending.End.TheVariants.{Returned, Words, Folder, Class, NoClass, ReservedName, Budget, Memory}
-
--- the end of the run
-abbrev pub ended : ℕ → Option Outcome → End
-ended budget None = Memory
-ended budget (Some (RunReturned n)) = Returned n
-ended budget (Some BudgetSpent) = Budget budget
-
-abbrev pub run_code : ℕ → Option Code → End
-run_code budget None = Memory
-run_code budget (Some code) = ended budget (run_of code.bytes budget [])
-
-abbrev pub named_end : Command → Option (List ℕ) → End → End
-named_end c None end = NoClass c.main
-named_end c (Some name) end = cond (is_reserved name) (ReservedName name) (cond (bytes_eq name c.main) end (NoClass c.main))
-
--- The class that is to run: its name isn't reserved, and is the command's.
-abbrev pub run_class : Command → ClassParts → End
-run_class c class = named_end c (class_text_at class.pool class.this_class) (run_code c.budget (first_code class.methods))
+use Rattle.nr_cli.specs.declared.ending.End.TheVariants.{Words, Folder, Class, Link, Memory}
 
 -- a file that can't be read, or whose code is refused
 abbrev pub fault_end : List ℕ → LoadFault → End
@@ -45,33 +22,33 @@ fault_end path (loads.Code method fault) = Class path (CodeRefused method fault)
 
 -- ---- one class file
 
-abbrev pub as_end : List ℕ → Result Loaded LoadFault → Result ClassParts End
-as_end path (Ok loaded) = Ok loaded.class
+abbrev pub as_end : List ℕ → Result Loaded LoadFault → Result Loaded End
+as_end path (Ok loaded) = Ok loaded
 as_end path (Err fault) = Err (fault_end path fault)
 
 -- The class in the file at a path, or the end of the program: first its length is looked at, then it is read with
 -- the code of its methods.
-abbrev pub file_class : List ℕ → List ℕ → Result ClassParts End
+abbrev pub file_class : List ℕ → List ℕ → Result Loaded End
 file_class path bytes = cond (nat_le (length bytes) 1048576) (as_end path (loaded_of bytes)) (Err (Class path FileTooLong))
 
-abbrev pub with_len : ℕ → Result ClassParts End → Result (ClassParts × ℕ) End
-with_len len (Ok class) = Ok (class, len)
+abbrev pub with_len : ℕ → Result Loaded End → Result (Loaded × ℕ) End
+with_len len (Ok loaded) = Ok (loaded, len)
 with_len len (Err end) = Err end
 
 -- the same, and how many bytes the file has
-abbrev pub loaded_at : List ℕ → Option (List ℕ) → Result (ClassParts × ℕ) End
+abbrev pub loaded_at : List ℕ → Option (List ℕ) → Result (Loaded × ℕ) End
 loaded_at path None = Err Memory
 loaded_at path (Some bytes) = with_len (length bytes) (file_class path bytes)
 
 -- ---- all class files
 
-abbrev pub and_then_all : Result (ClassParts × ℕ) End → Result (List ClassParts × ℕ) End → Result (List ClassParts × ℕ) End
+abbrev pub and_then_all : Result (Loaded × ℕ) End → Result (List Loaded × ℕ) End → Result (List Loaded × ℕ) End
 and_then_all (Err end) others = Err end
 and_then_all (Ok x) (Err end) = Err end
 and_then_all (Ok x) (Ok others) = Ok (x.0 ∷ others.0, x.1 + others.1)
 
 -- the classes in the files at these paths and how many bytes all of them have, or the first refusal
-abbrev pub all_loaded : List ℕ → List ToldFile → List (List ℕ) → Result (List ClassParts × ℕ) End
+abbrev pub all_loaded : List ℕ → List ToldFile → List (List ℕ) → Result (List Loaded × ℕ) End
 all_loaded dir files [] = Ok ([], 0)
 all_loaded dir files (path ∷ paths) = and_then_all (loaded_at path (file_at dir path files)) (all_loaded dir files paths)
 
@@ -87,25 +64,19 @@ calls_of (Some c) files = 1 + reads c.dir files (in_byte_order (class_paths c.di
 
 -- ---- what is done with them
 
-abbrev pub form_end : List ℕ → ClassParts → End
-form_end path class = Class path (OutOfThinForm (first_other class))
-
--- The form is one class file with a class of the form. The first path that isn't of it is refused: the first, where its
--- class isn't, and else the second, whatever class it has.
-abbrev pub judged : Command → List (List ℕ) → List ClassParts → End
-judged c (path ∷ []) (class ∷ classes) = cond (is_thin class) (run_class c class) (form_end path class)
-judged c (path ∷ second ∷ paths) (class ∷ other ∷ classes) = cond (is_thin class) (form_end second other) (form_end path class)
-judged c paths classes = NoClass c.main
+-- they are linked and verified, the class of the command is looked up, and its `main` is run
+abbrev pub judged : Command → List (List ℕ) → List Loaded → End
+judged c paths classes = main_end c paths (prepared classes c.main)
 
 abbrev pub last_end : Command → Option (List ℕ) → End
-last_end c None = NoClass c.main
+last_end c None = Link (links.NoClass c.main)
 last_end c (Some path) = Class path FolderTooLong
 
--- First the length of all files together is looked at, of which the last path tells, and then their form.
-abbrev pub folder_end : Command → List (List ℕ) → ℕ → List ClassParts → End
+-- First the length of all files together is looked at, of which the last path tells.
+abbrev pub folder_end : Command → List (List ℕ) → ℕ → List Loaded → End
 folder_end c paths len classes = cond (nat_le len 67108864) (judged c paths classes) (last_end c (slice_get paths (length paths - 1)))
 
-abbrev pub loaded_end : Command → List (List ℕ) → Result (List ClassParts × ℕ) End → End
+abbrev pub loaded_end : Command → List (List ℕ) → Result (List Loaded × ℕ) End → End
 loaded_end c paths (Ok x) = folder_end c paths x.1 x.0
 loaded_end c paths (Err end) = end
 
@@ -129,4 +100,5 @@ are_listed dir files (path ∷ paths) = is_some (file_at dir path files) && are_
 -- nothing failed: neither memory nor the folder
 pub record NothingFailed (end : End) : Type 0 where
   pub memory : end ≢ Memory
+  pub link_memory : end ≢ Link links.NoMemory
   pub folder : end ≢ Folder

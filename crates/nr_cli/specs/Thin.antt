@@ -1,19 +1,19 @@
--- Classes of the one form that runs so far. The form is the project's own; the flags and attributes are those of JVM
--- Specification 4.1, 4.6 and 4.7.3.
-use Rattle.std.specs.Prelude.{ℕ, bit_and, ◌+◌, ◌-◌, ◌&&◌, ◌||◌, ◌==◌, Bool, false, List, [], ◌∷◌, length, take_while, Option, None, Some, is_none, codes, cond, nat_le, nat_lt, nat_eq}
-use Rattle.std.specs.List.{starts_with}
-use Rattle.std.specs.Str.{bytes_eq}
-use Rattle.std.specs.Option.{option_map_or}
-use Rattle.nr_prog.specs.BodyNames.{class_text_at}
-use Rattle.nr_prog.specs.Members.{is_spelled}
-use Rattle.nr_prog.specs.declared.pool.PoolEntry.{PoolEntry}
-use Rattle.nr_prog.specs.declared.member.Method.{Method}
+-- Code of the one form that runs so far: int constants, additions and a return. The form is the project's own; the
+-- attributes are those of JVM Specification 4.7.3.
+use Rattle.std.specs.Prelude.{ℕ, ◌+◌, ◌-◌, ◌&&◌, ◌==◌, Bool, false, List, [], ◌∷◌, length, slice_get, Option, None, Some, Result, Ok, Err, is_none, cond, nat_le, nat_lt}
+use Rattle.std.specs.Option.{option_and_then, option_map_or}
 use Rattle.nr_prog.specs.declared.member.Code.{Code}
-use Rattle.nr_prog.specs.declared.parts.ClassParts.{ClassParts}
-
--- the class at the index has this name
-abbrev pub is_class_of : List ℕ → List PoolEntry → ℕ → Bool
-is_class_of name pool index = option_map_or (bytes_eq name) (class_text_at pool index) false
+use Rattle.nr_prog.specs.declared.member.Method.{Method}
+use Rattle.nr_linked.specs.declared.program.tables.ClassInfo.{ClassInfo}
+use Rattle.nr_linked.specs.declared.program.tables.ProgramTables.{ProgramTables}
+use Rattle.nr_linked.specs.Programs.{class_at, method_at}
+use Rattle.nr_cli.specs.Words.{Command}
+use Rattle.nr_cli.specs.Run.{run_of}
+use Rattle.nr_cli.specs.declared.machine.Outcome.{Outcome}
+use Rattle.nr_cli.specs.declared.machine.Outcome.TheVariants.{Returned as RunReturned, BudgetSpent}
+use Rattle.nr_cli.specs.declared.ending.LoadFault.TheVariants.{OutOfThinForm}
+use Rattle.nr_cli.specs.declared.ending.End.{End}
+use Rattle.nr_cli.specs.declared.ending.End.TheVariants.{Returned, Class, Budget, Memory}
 
 -- the height of the operand stack after an instruction that isn't the last
 abbrev pub height_after : ℕ → ℕ → ℕ → Option ℕ
@@ -44,30 +44,44 @@ abbrev pub has_thin_code : Option Code → Bool
 has_thin_code None = false
 has_thin_code (Some code) = is_thin_code code
 
--- the method `main`, public and static
-abbrev pub is_main : List PoolEntry → Method → Bool
-is_main pool m =
-    m.flags == 9 && (is_spelled pool (codes "main") (codes "([I)I") m.name m.desc && has_thin_code m.code)
+-- ---- a method of a program, as its class file has it
 
--- the number of the first method that isn't of the form, or the number of methods
-abbrev pub first_other : ClassParts → ℕ
-first_other c = length (take_while (is_main c.pool) c.methods)
+-- the place of the method in its class file
+abbrev pub place_of : ProgramTables → ℕ → ℕ
+place_of P m =
+    option_map_or (λ i. option_map_or (λ e. m - e.first_method) (class_at P i.«class») 0) (method_at P m) 0
 
--- no flags but public, final and super
-abbrev pub is_class_flags : ℕ → Bool
-is_class_flags flags = bit_and flags 0x31 == flags
+abbrev pub method_of_file : ℕ → ClassInfo → Option Method
+method_of_file place e = option_and_then (λ parts. slice_get parts.methods place) e.read
 
--- a class of the form: below Object, with no interfaces, no fields, and the one method
-abbrev pub is_thin : ClassParts → Bool
-is_thin c =
-    is_class_flags c.flags && (is_class_of (codes "java/lang/Object") c.pool c.super_class
-    && (length c.interfaces == 0 && (length c.fields == 0 && (length c.methods == 1 && first_other c == 1))))
+abbrev pub file_method : ProgramTables → ℕ → Option Method
+file_method P m =
+    option_and_then (λ i. option_and_then (method_of_file (place_of P m)) (class_at P i.«class»)) (method_at P m)
 
--- a name that belongs to the built-in classes
-abbrev pub is_reserved : List ℕ → Bool
-is_reserved name = starts_with nat_eq name (codes "java/") || starts_with nat_eq name (codes "nrmi/")
+abbrev pub code_of : ProgramTables → ℕ → Option Code
+code_of P m = option_and_then (λ x. x.code) (file_method P m)
 
--- the code of the first method
-abbrev pub first_code : List Method → Option Code
-first_code [] = None
-first_code (m ∷ methods) = m.code
+-- the path of its class file; classes stand in the order of the paths
+abbrev pub path_of : List (List ℕ) → ProgramTables → ℕ → List ℕ
+path_of paths P m = option_map_or (λ path. path) (option_and_then (λ i. slice_get paths i.«class») (method_at P m)) []
+
+-- ---- how `main` ends
+
+abbrev pub ended : ℕ → Option Outcome → End
+ended budget None = Memory
+ended budget (Some (RunReturned n)) = Returned n
+ended budget (Some BudgetSpent) = Budget budget
+
+abbrev pub run_code : ℕ → Option Code → End
+run_code budget None = Memory
+run_code budget (Some code) = ended budget (run_of code.bytes budget [])
+
+-- It is run where its code is of the form, and else refused.
+abbrev pub run_end : Command → List (List ℕ) → ProgramTables → ℕ → End
+run_end c paths P m =
+    cond (has_thin_code (code_of P m)) (run_code c.budget (code_of P m))
+    (Class (path_of paths P m) (OutOfThinForm (place_of P m)))
+
+abbrev pub main_end : Command → List (List ℕ) → Result (ProgramTables × ℕ) End → End
+main_end c paths (Ok x) = run_end c paths x.0 x.1
+main_end c paths (Err end) = end

@@ -2,6 +2,7 @@
 use nr_base::Items;
 use nr_classread::ClassFault;
 use nr_code::CodeFault;
+use nr_linkrules::LinkFault;
 
 /// Why a class file is refused.
 #[derive(Clone, Copy, Debug, PartialEq, Eq)]
@@ -10,9 +11,8 @@ pub enum LoadFault {
     Read(ClassFault),
     /// The code of the method at this place, from 0, is refused.
     Code(u16, CodeFault),
-    /// The class files aren't of the form that runs so far, one file with one class of the form,
-    /// and this is the first that isn't. The number is that of the first method that isn't, or the
-    /// number of methods.
+    /// The method at this place, from 0, is the `main` that is to run, and its code isn't of the form
+    /// that runs so far.
     OutOfThinForm(u32),
     /// The file has more than 1,048,576 bytes.
     FileTooLong,
@@ -31,10 +31,10 @@ pub enum End {
     Folder,
     /// The class file at this path is refused.
     Class(Items<u8>, LoadFault),
-    /// There is no class of this name.
-    NoClass(Items<u8>),
-    /// The class file holds a class of this name, which belongs to the built-in classes.
-    ReservedName(Items<u8>),
+    /// The classes don't link, or the class that is to run isn't there or can't be run.
+    Link(LinkFault),
+    /// The program isn't well typed; why, as it is spelled.
+    Verify(Items<u8>),
     /// The run made so many steps without an end.
     Budget(u32),
     /// Memory ran out.

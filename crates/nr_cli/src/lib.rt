@@ -6,6 +6,7 @@ mod law;
 mod load;
 mod machine;
 mod plan;
+mod program;
 mod report;
 mod spelling;
 mod thin;

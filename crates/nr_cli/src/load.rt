@@ -1,17 +1,20 @@
 //! Reads the class files of a folder.
-ghost use Rattle.std.specs.Prelude.{◌≡◌, ◌⊎◌, ◌≤◌, ◌+◌, length, min, not, nat_le, true, None, Ok, Err, IfOk, IfErr, OnOk, map};
+ghost use Rattle.std.specs.Prelude.{◌≡◌, ◌⊎◌, ◌≤◌, ◌+◌, ◌++◌, ◌∷◌, [], All, length, min, not, nat_le, true, None, Ok, Err, IfOk, IfErr, OnOk, map};
 ghost use Rattle.std.specs.String.{string_bytes};
 ghost use Rattle.nr_outside.specs.Calls.{CallsAtMost};
 ghost use Rattle.nr_outside.specs.Causes.{HasCause, Rose};
 ghost use Rattle.nr_outside.specs.Folder.{class_paths, file_at};
 ghost use Rattle.nr_cli.specs.Order.{in_byte_order};
 ghost use Rattle.nr_cli.specs.Plan.{fault_end, file_class, with_len, loaded_at, all_loaded, reads, are_listed};
-ghost use Rattle.nr_cli.specs.Loading.{kept_with, IsNext, IsLoaded};
+ghost use Rattle.nr_classread.specs.ClassText.{ReadsAs};
+ghost use Rattle.nr_prog.specs.BodyText.{HasBodies};
+ghost use Rattle.nr_linkrules.specs.Readable.{IsReadable};
+ghost use Rattle.nr_cli.specs.Loading.{IsNext, IsRead};
 
 use crate::ending::{End, LoadFault};
 use nr_base::Items;
 use nr_outside::{Fault, Folder};
-use nr_prog::Class;
+use nr_prog::Loaded;
 use std::alloc::{AllocError, Global};
 
 // The most bytes of a class file.
@@ -62,10 +65,22 @@ fn refused_read(alloc: Global, path: &str, fault: nr_code::LoadFault) -> End
     }
 }
 
+// A class that was read, as the linker wants it.
+fn readable(bytes: &[u8], loaded: Loaded) -> Loaded
+    requires reads { ReadsAs bytes.now loaded.«class» }
+    requires bodies { HasBodies loaded.«class» loaded.bodies }
+    ensures same { result ≡ loaded }
+    ensures readable { IsReadable result }
+{
+    let (_, _) = (bytes, loaded.class.parts());
+    loaded
+}
+
 // The class in the bytes of a file, whose methods have code that is decoded.
-fn class_of_bytes(alloc: Global, path: &str, bytes: &[u8]) -> Result<Class, End>
+fn class_of_bytes(alloc: Global, path: &str, bytes: &[u8]) -> Result<Loaded, End>
     requires { length bytes.now ≤ 1048577 }
     ensures class { (result ≡ Err End.Memory) ⊎ (result ≡ file_class path.now bytes.now) }
+    ensures readable { IfOk result IsReadable }
     ensures words { result ≡ Err End.Words → ⊥ }
     ensures folder { result ≡ Err End.Folder → ⊥ }
 {
@@ -73,22 +88,23 @@ fn class_of_bytes(alloc: Global, path: &str, bytes: &[u8]) -> Result<Class, End>
         return Err(refused(alloc, path, LoadFault::FileTooLong));
     }
     match nr_code::load_class(alloc, bytes) {
-        Ok(loaded) => Ok(loaded.class),
+        Ok(loaded) => Ok(readable(bytes, loaded)),
         Err(fault) => Err(refused_read(alloc, path, fault)),
     }
 }
 
 // The same, and how many bytes there are.
-fn load_bytes(alloc: Global, path: &str, bytes: &[u8]) -> Result<(Class, usize), End>
+fn load_bytes(alloc: Global, path: &str, bytes: &[u8]) -> Result<(Loaded, usize), End>
     requires { length bytes.now ≤ 1048577 }
     ensures class { (result ≡ Err End.Memory)
         ⊎ (result ≡ with_len (length bytes.now) (file_class path.now bytes.now)) }
+    ensures readable { IfOk result (λ x. IsReadable x.0) }
     ensures len { IfOk result (λ x. x.1 ≤ 1048577) }
     ensures words { result ≡ Err End.Words → ⊥ }
     ensures folder { result ≡ Err End.Folder → ⊥ }
 {
     match class_of_bytes(alloc, path, bytes) {
-        Ok(class) => Ok((class, bytes.len())),
+        Ok(loaded) => Ok((loaded, bytes.len())),
         Err(end) => Err(end),
     }
 }
@@ -99,10 +115,11 @@ fn load_class<F: Folder>(
     folder: &mut F,
     dir: &str,
     path: &str,
-) -> Result<(Class, usize), End>
+) -> Result<(Loaded, usize), End>
     ensures files { F.Tells → F.files folder.new ≡ F.files folder.old }
     ensures class { F.Tells → (result ≡ Err End.Memory) ⊎ (result ≡ Err End.Folder)
         ⊎ (result ≡ loaded_at path.now (file_at dir.now path.now (F.files folder.old))) }
+    ensures readable { IfOk result (λ x. IsReadable x.0) }
     ensures len { IfOk result (λ x. x.1 ≤ 1048577) }
     ensures words { result ≡ Err End.Words → ⊥ }
     ensures once { F.Tells → CallsAtMost 1 (F.calls folder.old) (F.calls folder.new) }
@@ -117,11 +134,11 @@ fn load_class<F: Folder>(
     }
 }
 
-/// What is kept of class files that were read: the classes of the first two, and how many bytes all
-/// of them have, or one more than the limit where they have more.
+/// Class files that were read: their classes in order, where they aren't too long together, and how
+/// many bytes all of them have, or one more than the limit where they have more.
 #[derive(Drop)]
-pub struct Loaded {
-    pub classes: Vec<Class>,
+pub struct ReadClasses {
+    pub classes: Items<Loaded>,
     pub len: usize,
 }
 
@@ -140,19 +157,19 @@ pub fn is_folder_too_long(len: usize) -> bool
     len > MAX_FOLDER
 }
 
-impl Loaded {
+impl ReadClasses {
     // Puts a class file to the others.
-    fn add(&mut self, class: Class, len: usize) -> Result<(), AllocError>
+    fn add(&mut self, loaded: Loaded, len: usize) -> Result<(), AllocError>
         requires so_far { self.old.len ≤ 67108865 }
         requires one { len ≤ 1048577 }
-        ensures classes { OnOk result
-            (self.new.classes.items ≡ kept_with self.old.classes.items class) }
+        ensures classes { OnOk result (self.new.len ≤ 67108864
+            → self.new.classes ≡ self.old.classes ++ loaded ∷ []) }
         ensures len { OnOk result (self.new.len ≡ min (self.old.len + len) 67108865) }
     {
-        if self.classes.len() < 2 {
-            self.classes.push(class)?;
-        }
         self.len = len_with(self.len, len);
+        if !is_folder_too_long(self.len) {
+            self.classes.push(loaded)?;
+        }
         Ok(())
     }
 }
@@ -163,27 +180,29 @@ fn load_next<F: Folder>(
     folder: &mut F,
     dir: &str,
     path: &str,
-    loaded: &mut Loaded,
+    read: &mut ReadClasses,
 ) -> Result<(), End>
-    requires { loaded.old.len ≤ 67108865 }
+    requires { read.old.len ≤ 67108865 }
     ensures files { F.Tells → F.files folder.new ≡ F.files folder.old }
     ensures ok { F.Tells → OnOk result
         (IsNext (loaded_at path.now (file_at dir.now path.now (F.files folder.old)))
-        loaded.old.classes.items loaded.old.len loaded.new.classes.items loaded.new.len) }
+        read.old.classes read.old.len read.new.classes read.new.len) }
     ensures err { F.Tells → IfErr result (λ end. (end ≡ End.Memory) ⊎ (end ≡ End.Folder)
         ⊎ (loaded_at path.now (file_at dir.now path.now (F.files folder.old)) ≡ Err end)) }
-    ensures len { OnOk result (loaded.new.len ≤ 67108865) }
+    ensures len { OnOk result (read.new.len ≤ 67108865) }
+    ensures readable { (read.old.len ≤ 67108864 → All IsReadable read.old.classes)
+        → OnOk result (read.new.len ≤ 67108864 → All IsReadable read.new.classes) }
     ensures words { result ≡ Err End.Words → ⊥ }
     ensures once { F.Tells → CallsAtMost 1 (F.calls folder.old) (F.calls folder.new) }
     ensures faults { F.faults folder.old ≤ F.faults folder.new }
     ensures cause { result ≡ Err End.Folder → Rose (F.faults folder.old) (F.faults folder.new)
         ⊎ (F.Tells × (file_at dir.now path.now (F.files folder.old) ≡ None)) }
 {
-    let (class, len) = match load_class(alloc, folder, dir, path) {
+    let (loaded, len) = match load_class(alloc, folder, dir, path) {
         Ok(read) => read,
         Err(end) => return Err(end),
     };
-    match loaded.add(class, len) {
+    match read.add(loaded, len) {
         Ok(()) => Ok(()),
         Err(_) => Err(End::Memory),
     }
@@ -196,11 +215,11 @@ pub fn load_all<F: Folder>(
     folder: &mut F,
     dir: &str,
     paths: &[String],
-) -> Result<Loaded, End>
+) -> Result<ReadClasses, End>
     ensures files { F.Tells → F.files folder.new ≡ F.files folder.old }
-    ensures ok { F.Tells → IfOk result (λ l. IsLoaded
-        (all_loaded dir.now (F.files folder.old) (map string_bytes paths.now))
-        l.classes.items l.len) }
+    ensures ok { F.Tells → IfOk result (λ r. IsRead
+        (all_loaded dir.now (F.files folder.old) (map string_bytes paths.now)) r.classes r.len) }
+    ensures readable { IfOk result (λ r. r.len ≤ 67108864 → All IsReadable r.classes) }
     ensures err { F.Tells → IfErr result (λ end. (end ≡ End.Memory) ⊎ (end ≡ End.Folder)
         ⊎ (all_loaded dir.now (F.files folder.old) (map string_bytes paths.now) ≡ Err end)) }
     ensures words { result ≡ Err End.Words → ⊥ }
@@ -212,14 +231,14 @@ pub fn load_all<F: Folder>(
         → are_listed dir.now (F.files folder.old) (map string_bytes paths.now) ≡ true)
         → result ≡ Err End.Folder → Rose (F.faults folder.old) (F.faults folder.new) }
 {
-    let mut loaded = Loaded {
-        classes: Vec::new(alloc),
+    let mut read = ReadClasses {
+        classes: Items::new(alloc),
         len: 0,
     };
     for path in paths {
-        if let Err(end) = load_next(alloc, folder, dir, path, &mut loaded) {
+        if let Err(end) = load_next(alloc, folder, dir, path, &mut read) {
             return Err(end);
         }
     }
-    Ok(loaded)
+    Ok(read)
 }

@@ -1,47 +1,26 @@
 //! Does what the words say, as far as the folder goes.
-ghost use Rattle.std.specs.Prelude.{◌≡◌, ◌⊎◌, ◌≤◌, ◌-◌, length, slice_get, true, Some, None, option_copied, cond, map};
+ghost use Rattle.std.specs.Prelude.{◌≡◌, ◌⊎◌, ◌≤◌, ◌-◌, All, length, slice_get, true, Some, None, option_copied, map};
 ghost use Rattle.std.specs.String.{string_bytes};
 ghost use Rattle.nr_outside.specs.Calls.{CallsAtMost};
 ghost use Rattle.nr_outside.specs.Causes.{Rose};
-ghost use Rattle.nr_cli.specs.Thin.{has_thin_code, is_thin, is_reserved};
+ghost use Rattle.nr_linkrules.specs.declared.fault.LinkFault.TheVariants as links;
+ghost use Rattle.nr_linkrules.specs.Readable.{IsReadable};
+ghost use Rattle.nr_cli.specs.Thin.{has_thin_code, run_code, run_end};
 ghost use Rattle.nr_cli.specs.Words.{told, command_of};
-ghost use Rattle.nr_cli.specs.Plan.{run_code, run_class, form_end, judged, last_end, folder_end, of_paths, of_command, end_of, reads, calls_of, are_listed};
+ghost use Rattle.nr_cli.specs.Plan.{judged, last_end, folder_end, of_paths, of_command, end_of, reads, calls_of, are_listed};
 
 use crate::ending::{End, LoadFault};
-use crate::load::{Loaded, is_folder_too_long, load_all, refused, sorted_names};
+use crate::load::{ReadClasses, is_folder_too_long, load_all, refused, sorted_names};
 use crate::machine::{Outcome, run};
-use crate::thin::{code_of, count_leading, is_of_form, own_name};
+use crate::program::prepare;
+use crate::thin::{code_of, has_code, path_of, place_of};
 use crate::words::{RunCommand, read_words};
 use nr_base::Items;
+use nr_linked::{MethodId, Program};
+use nr_linkrules::LinkFault;
 use nr_outside::{Fault, Folder};
-use nr_prog::{Class, Code};
+use nr_prog::{Code, Loaded};
 use std::alloc::Global;
-
-// The end where no class has the name of the command.
-fn no_class(alloc: Global, command: &RunCommand<'_>) -> End
-    ensures { (result ≡ End.Memory) ⊎ (result ≡ End.NoClass command.now.main) }
-{
-    match Items::of(alloc, command.main.as_bytes()) {
-        Ok(name) => End::NoClass(name),
-        Err(_) => End::Memory,
-    }
-}
-
-// The end where the class file holds a class of a reserved name.
-fn reserved_name(alloc: Global, name: &[u8]) -> End
-    ensures { (result ≡ End.Memory) ⊎ (result ≡ End.ReservedName name.now) }
-{
-    match Items::of(alloc, name) {
-        Ok(name) => End::ReservedName(name),
-        Err(_) => End::Memory,
-    }
-}
-
-fn has_reserved_front(name: &[u8]) -> bool
-    ensures { result ≡ is_reserved name.now }
-{
-    name.starts_with(b"java/".as_slice()) || name.starts_with(b"nrmi/".as_slice())
-}
 
 // Runs the code of `main`.
 fn end_of_code(alloc: Global, budget: u32, code: Option<&Code>) -> End
@@ -60,86 +39,53 @@ fn end_of_code(alloc: Global, budget: u32, code: Option<&Code>) -> End
     }
 }
 
-// Runs a class, where it has the name of the command.
-fn end_of_class(alloc: Global, command: &RunCommand<'_>, class: &Class) -> End
-    requires { is_thin class.now ≡ true }
-    ensures end { (result ≡ End.Memory) ⊎ (result ≡ run_class (told command.now) class.now) }
-    ensures words { result ≡ End.Words → ⊥ }
-    ensures folder { result ≡ End.Folder → ⊥ }
-{
-    let Some(name) = own_name(class) else {
-        return no_class(alloc, command);
-    };
-    if has_reserved_front(name) {
-        return reserved_name(alloc, name);
-    }
-    if name != command.main.as_bytes() {
-        return no_class(alloc, command);
-    }
-    end_of_code(alloc, command.budget, code_of(class))
-}
-
-// The end of the program where a class isn't of the form.
-fn refused_form(alloc: Global, path: &str, class: &Class) -> End
-    ensures end { (result ≡ End.Memory) ⊎ (result ≡ form_end path.now class.now) }
-    ensures words { result ≡ End.Words → ⊥ }
-    ensures folder { result ≡ End.Folder → ⊥ }
-{
-    refused(
-        alloc,
-        path,
-        LoadFault::OutOfThinForm(count_leading(class) as u32),
-    )
-}
-
-// The end over one class file.
-fn end_of_one(alloc: Global, command: &RunCommand<'_>, path: &str, class: &Class) -> End
+// Runs `main` of a program, where its code is of the form.
+fn end_of_main(
+    alloc: Global,
+    command: &RunCommand<'_>,
+    paths: &[String],
+    program: &Program,
+    main: MethodId,
+) -> End
     ensures end { (result ≡ End.Memory)
-        ⊎ (result ≡ cond (is_thin class.now) (run_class (told command.now) class.now)
-        (form_end path.now class.now)) }
+        ⊎ (result ≡ run_end (told command.now) (map string_bytes paths.now) program.now main) }
     ensures words { result ≡ End.Words → ⊥ }
     ensures folder { result ≡ End.Folder → ⊥ }
 {
-    if is_of_form(class) {
-        end_of_class(alloc, command, class)
-    } else {
-        refused_form(alloc, path, class)
+    let code = code_of(program, main);
+    if has_code(code) {
+        return end_of_code(alloc, command.budget, code);
+    }
+    let fault = LoadFault::OutOfThinForm(place_of(program, main));
+    refused(alloc, path_of(paths, program, main), fault)
+}
+
+// The end over the classes at these paths.
+fn end_of_classes(
+    alloc: Global,
+    command: &RunCommand<'_>,
+    paths: &[String],
+    classes: Items<Loaded>,
+) -> End
+    requires { All IsReadable classes }
+    ensures end { (result ≡ End.Memory)
+        ⊎ (result ≡ judged (told command.now) (map string_bytes paths.now) classes) }
+    ensures words { result ≡ End.Words → ⊥ }
+    ensures folder { result ≡ End.Folder → ⊥ }
+{
+    match prepare(alloc, classes, &command.main) {
+        Ok((verified, main)) => end_of_main(alloc, command, paths, verified.program(), main),
+        Err(end) => end,
     }
 }
 
-// The end over class files of which these are the first two.
-fn end_of_two(alloc: Global, path: &str, class: &Class, second: &str, other: &Class) -> End
-    ensures end { (result ≡ End.Memory)
-        ⊎ (result ≡ cond (is_thin class.now) (form_end second.now other.now)
-        (form_end path.now class.now)) }
-    ensures words { result ≡ End.Words → ⊥ }
-    ensures folder { result ≡ End.Folder → ⊥ }
+// The end where no class file is there, but the command names a class.
+fn no_class(command: &RunCommand<'_>) -> End
+    ensures { (result ≡ End.Memory) ⊎ (result ≡ End.Link (links.NoClass command.now.main)) }
 {
-    if is_of_form(class) {
-        refused_form(alloc, second, other)
-    } else {
-        refused_form(alloc, path, class)
-    }
-}
-
-// The end over the classes at these paths, of which the first two are kept.
-fn end_of_form(alloc: Global, command: &RunCommand<'_>, paths: &[String], classes: &[Class]) -> End
-    ensures end { (result ≡ End.Memory)
-        ⊎ (result ≡ judged (told command.now) (map string_bytes paths.now) classes.now) }
-    ensures words { result ≡ End.Words → ⊥ }
-    ensures folder { result ≡ End.Folder → ⊥ }
-{
-    match paths {
-        [] => no_class(alloc, command),
-        [path] => match classes {
-            [] => no_class(alloc, command),
-            [class, ..] => end_of_one(alloc, command, path, class),
-        },
-        [path, second, ..] => match classes {
-            [] => no_class(alloc, command),
-            [_] => no_class(alloc, command),
-            [class, other, ..] => end_of_two(alloc, path, class, second, other),
-        },
+    match command.main.clone() {
+        Ok(name) => End::Link(LinkFault::NoClass(name)),
+        Err(_) => End::Memory,
     }
 }
 
@@ -153,22 +99,22 @@ fn end_of_long(alloc: Global, command: &RunCommand<'_>, paths: &[String]) -> End
 {
     match paths.last() {
         Some(path) => refused(alloc, path, LoadFault::FolderTooLong),
-        None => no_class(alloc, command),
+        None => no_class(command),
     }
 }
 
 // The end over class files that were read.
-fn end_of_loaded(alloc: Global, command: &RunCommand<'_>, paths: &[String], loaded: &Loaded) -> End
+fn end_of_read(alloc: Global, command: &RunCommand<'_>, paths: &[String], read: ReadClasses) -> End
+    requires { read.len ≤ 67108864 → All IsReadable read.classes }
     ensures end { (result ≡ End.Memory)
-        ⊎ (result ≡ folder_end (told command.now) (map string_bytes paths.now)
-        loaded.now.len loaded.now.classes.items) }
+        ⊎ (result ≡ folder_end (told command.now) (map string_bytes paths.now) read.len read.classes) }
     ensures words { result ≡ End.Words → ⊥ }
     ensures folder { result ≡ End.Folder → ⊥ }
 {
-    if is_folder_too_long(loaded.len) {
+    if is_folder_too_long(read.len) {
         return end_of_long(alloc, command, paths);
     }
-    end_of_form(alloc, command, paths, &loaded.classes)
+    end_of_classes(alloc, command, paths, read.classes)
 }
 
 // The end over the class files at these paths.
@@ -191,7 +137,7 @@ fn end_of_paths<F: Folder>(
         → result ≡ End.Folder → Rose (F.faults folder.old) (F.faults folder.new) }
 {
     match load_all(alloc, folder, command.dir, paths) {
-        Ok(loaded) => end_of_loaded(alloc, command, paths, &loaded),
+        Ok(read) => end_of_read(alloc, command, paths, read),
         Err(end) => end,
     }
 }

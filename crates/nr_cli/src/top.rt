@@ -16,11 +16,12 @@ use std::alloc::Global;
 
 /// Does what the words after the program's name say, and gives the status of the process.
 ///
-/// `run DIR MAIN BUDGET` and then 0 to 1,000 words INT runs the class MAIN of the folder DIR for at
-/// most BUDGET steps. Other words are refused. The status is 0 where `main` returned, 2 where the
-/// words fit no command, 3 where the folder failed, 4 where a class file is refused, 5 where there
-/// is no class MAIN or the class has a reserved name, 9 where the run made BUDGET steps without an
-/// end, 11 where a sink failed and 12 where memory ran out.
+/// `run DIR MAIN BUDGET` and then 0 to 1,000 words INT links the class files of the folder DIR, verifies
+/// them, and runs the class MAIN for at most BUDGET steps. Other words are refused. The status is 0
+/// where `main` returned, 2 where the words fit no command, 3 where the folder failed, 4 where a class
+/// file is refused, 5 where the classes don't link or MAIN isn't there or has no `main`, 6 where the
+/// program isn't well typed, 9 where the run made BUDGET steps without an end, 11 where a sink failed
+/// and 12 where memory ran out.
 pub fn nrmi<F: Folder, W: Wire, O: Sink, E: Sink>(
     alloc: Global,
     words: &[&str],

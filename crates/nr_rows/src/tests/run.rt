@@ -40,30 +40,22 @@ const CHANGES: &str = "\
 9|0|Short 104
 10|3|PoolTag 15 0
 12|255|Short 11
-62|2|OutOfThinForm 1
 64|1|BadName 1
-66|2|OutOfThinForm 1
 66|0|PoolKind 0
 68|1|Short 105
 70|1|Short 85
 72|0|Short 81
-74|8|OutOfThinForm 0
 76|6|BadName 6
 78|5|BadDesc 5
 80|2|Short 105
 82|5|CodePresence 0
 86|17|AttrLength 81
-88|1|OutOfThinForm 0
-90|0|OutOfThinForm 0
 94|5|AttrLength 81
 95|18|Code 0 PoolUse 0
 95|167|Code 0 Target 0 1632
-95|172|OutOfThinForm 0
 95|178|Code 0 OutOfProfile 0 178
 95|202|Code 0 UnknownOp 0
-96|0|OutOfThinForm 0
 97|100|OutOfThinForm 0
-98|96|OutOfThinForm 0
 100|5|Short 105
 102|1|Short 105
 104|1|Short 105
@@ -79,14 +71,14 @@ const LENGTHS: &str = "\
 ";
 
 // A number of a line.
-fn number<R: Abort>(rt: &R, part: Option<&str>) -> usize {
+pub fn number<R: Abort>(rt: &R, part: Option<&str>) -> usize {
     part.expect(rt, "a part")
         .parse::<usize>()
         .expect(rt, "a number")
 }
 
 // A run over one class file `M.class`.
-fn expect<R: AllocGlobal + Abort>(
+pub fn expect<R: AllocGlobal + Abort>(
     rt: &R,
     words: &[&str],
     class: &[u8],
@@ -160,6 +152,14 @@ fn expect_length<R: AllocGlobal + Abort>(rt: &R, row: &str) {
 }
 
 #[test]
+fn flags_that_say_nothing(rt: HostRuntime) {
+    let mut class = M_CLASS;
+    class[62] = 2;
+    let words = ["run", "d", "M", "4"];
+    expect(&rt, &words, &class, Scene::SOUND, (0, "result 5\n", ""))
+}
+
+#[test]
 fn files_of_another_form(rt: HostRuntime) {
     for row in CHANGES.lines() {
         expect_change(&rt, row);
@@ -230,11 +230,10 @@ fn folders(rt: HostRuntime) {
     let class = M_CLASS.as_slice();
     expect_files(&rt, &[], 5, "nrmi: link NoClass M\n");
     expect_files(&rt, &[("M.classes", class)], 5, "nrmi: link NoClass M\n");
-    let nested = "nrmi: class b/N.class OutOfThinForm 1\n";
-    expect_files(&rt, &[("b/N.class", class), ("M.class", class)], 4, nested);
+    let doubled = "nrmi: link DoubledClass M\n";
+    expect_files(&rt, &[("b/N.class", class), ("M.class", class)], 5, doubled);
     let empty = "nrmi: class M.class Short 0\n";
     expect_files(&rt, &[("a.class", class), ("M.class", &[])], 4, empty);
-    let first = "nrmi: class M.class OutOfThinForm 1\n";
     let mut other = M_CLASS;
     other[62] = 2;
     let files = [
@@ -242,7 +241,7 @@ fn folders(rt: HostRuntime) {
         ("N.class", class),
         ("O.class", class),
     ];
-    expect_files(&rt, &files, 4, first);
+    expect_files(&rt, &files, 5, doubled);
     let later = "nrmi: class N.class Short 0\n";
     let files = [("M.class", other.as_slice()), ("N.class", [].as_slice())];
     expect_files(&rt, &files, 4, later);
@@ -262,6 +261,25 @@ fn folders(rt: HostRuntime) {
     reserved.extend_from_slice(rest).expect(&rt, "the rest");
     let line = "nrmi: link ReservedName java/X\n";
     expect_files(&rt, &[("M.class", &reserved)], 5, line)
+}
+
+#[test]
+fn two_classes(rt: HostRuntime) {
+    let mut other = M_CLASS;
+    other[13] = b'N';
+    let files = [("M.class", M_CLASS.as_slice()), ("N.class", &other)];
+    for main in ["M", "N"] {
+        let found = run_over(&rt, &["run", "d", main, "4"], &files, Scene::SOUND);
+        assert_eq!(rt; found.status, 0);
+        assert_eq!(rt; found.out.as_slice(), b"result 5\n".as_slice());
+    }
+    // `main` of the second class isn't of the form that runs so far
+    other[97] = 100;
+    let files = [("M.class", M_CLASS.as_slice()), ("N.class", &other)];
+    let found = run_over(&rt, &["run", "d", "N", "4"], &files, Scene::SOUND);
+    assert_eq!(rt; found.status, 4);
+    let line = b"nrmi: class N.class OutOfThinForm 0\n".as_slice();
+    assert_eq!(rt; found.err.as_slice(), line);
 }
 
 #[test]

@@ -5,6 +5,7 @@ use Rattle.nr_cli.proofs.load.load_all.Goals as goal
 pub loop-path-preserved : goal.loop-path-preserved
 loop-path-preserved g c = record {
   len = c.in_default.ensures.len;
+  readable = c.in_default.ensures.readable c.loop-path.invariant.readable;
   faults = omega (arith, c.in_default.ensures.faults, c.loop-path.invariant.faults);
   files = λ t. c.in_default.ensures.files t ∙ c.loop-path.invariant.files t;
   walk = λ t. walks_at _ _ _ _ _ _ _ c.path-item.result _ _ _ _ c.loop-path-test.true c.path-item.is c.deref.ensures (c.loop-path.invariant.files t) (c.in_default.ensures.ok t) (c.loop-path.invariant.walk t);

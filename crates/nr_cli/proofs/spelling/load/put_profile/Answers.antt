@@ -1,6 +1,6 @@
 use Rattle.std.proofs.Common.{◌≡◌, ◌++◌, codes, OnOk, sym, ap, subst, ◌∙◌, append_assoc}
 use Rattle.std.specs.Fmt.{decimal}
-use Rattle.nr_cli.proofs.spelling.put_profile.Goals as goal
+use Rattle.nr_cli.proofs.spelling.load.put_profile.Goals as goal
 
 pub returns : goal.returns
 returns c =

@@ -1,0 +1,231 @@
+-- A link fault of the definition is never want of memory.
+use Rattle.std.proofs.Common.{◌≡◌, ℕ, suc, ◌+◌, Bool, true, false, List, [], ◌∷◌, ◌++◌, Option, Some, None, Result, Ok, Err, refl, subst}
+use Rattle.std.specs.Prelude.{not, ◌&&◌, ◌||◌, ◌==◌, is_some, if◌then◌else◌}
+use Rattle.std.specs.Option.{option_map_or, option_or}
+use Rattle.nr_optable.specs.declared.table.Family.{Family}
+use Rattle.nr_optable.specs.declared.table.Family.TheVariants.{F8, F30, F31, F32, F33, F34, F37}
+use Rattle.nr_base.specs.declared.desc.types.Desc.{Desc}
+use Rattle.nr_base.specs.declared.desc.types.DescBase.{DescBase}
+use Rattle.nr_base.specs.declared.desc.types.DescBase.TheVariants as bases
+use Rattle.nr_prog.specs.declared.body.frame_map.FrameMap.{FrameMap}
+use Rattle.nr_prog.specs.declared.body.frame_map.MapType.{MapType}
+use Rattle.nr_prog.specs.declared.body.frame_map.MapType.TheVariants as map_types
+use Rattle.nr_prog.specs.declared.body.instruction.Instr.{Instr}
+use Rattle.nr_prog.specs.declared.body.loaded.Loaded.{Loaded}
+use Rattle.nr_prog.specs.declared.member.Handler.{Handler}
+use Rattle.nr_prog.specs.declared.parts.ClassParts.{ClassParts}
+use Rattle.nr_prog.specs.declared.pool.PoolEntry.{PoolEntry}
+use Rattle.nr_prog.specs.declared.pool.PoolEntry.TheVariants.{FieldRef, Integer, InterfaceMethodRef, Long, MethodRef}
+use Rattle.nr_instrs.specs.Checks.{then_on}
+use Rattle.nr_linked.specs.declared.program.kind.Kind.{Kind}
+use Rattle.nr_linked.specs.declared.program.tables.ClassInfo.{ClassInfo}
+use Rattle.nr_linked.specs.declared.program.tables.MethodInfo.{MethodInfo}
+use Rattle.nr_linked.specs.declared.program.tables.ProgramTables.{ProgramTables}
+use Rattle.nr_linked.specs.declared.program.tables.Resolved.{Resolved}
+use Rattle.nr_linkrules.specs.declared.fault.LinkFault.{LinkFault}
+use Rattle.nr_linkrules.specs.declared.fault.LinkFault.TheVariants as faults
+use Rattle.nr_linkrules.specs.ClassRules as rules
+use Rattle.nr_linkrules.specs.Faults.{first_numbered, first_of, unless}
+use Rattle.nr_linkrules.specs.Layout.{laid_out}
+use Rattle.nr_linkrules.specs.LinkFaults.{Rule, classes_fault, code_faults, first_class_fault, link_fault, on_loaded}
+use Rattle.nr_linkrules.specs.Mains.{main_in, main_of}
+use Rattle.nr_linkrules.specs.Outline.{outline}
+use Rattle.nr_linkrules.specs.SiteRules as sites
+use Rattle.nr_linkrules.specs.SiteRules.{Finding, Place, fault_of, or_fault}
+
+abbrev pub IsOwnFault : LinkFault → Type 0
+IsOwnFault faults.NoMemory = ⊥
+IsOwnFault fault = Unit {0}
+
+abbrev pub IsOwnOption : Option LinkFault → Type 0
+IsOwnOption None = Unit {0}
+IsOwnOption (Some fault) = IsOwnFault fault
+
+abbrev pub IsOwnFinding : {A : Type 0} → Result A LinkFault → Type 0
+IsOwnFinding (Ok x) = Unit {0}
+IsOwnFinding (Err fault) = IsOwnFault fault
+
+-- ---- checks
+
+unless_own : (test : Bool) (fault : LinkFault) → IsOwnFault fault → IsOwnOption (unless test fault)
+unless_own true fault own = tt
+unless_own false fault own = own
+
+or_own : (a b : Option LinkFault) → IsOwnOption a → IsOwnOption b → IsOwnOption (option_or a b)
+or_own None b own other = other
+or_own (Some f) b own other = own
+
+first_own : {X : Type 0} (f : X → Option LinkFault) → ((x : X) → IsOwnOption (f x)) → (xs : List X) → IsOwnOption (first_of f xs)
+unfolding first_of
+first_own f each [] = tt
+first_own f each (x ∷ xs) = or_own (f x) (first_of f xs) (each x) (first_own f each xs)
+
+numbered_own : {X : Type 0} (f : ℕ → X → Option LinkFault) → ((n : ℕ) (x : X) → IsOwnOption (f n x)) → (n : ℕ) (xs : List X) → IsOwnOption (first_numbered f n xs)
+unfolding first_numbered
+numbered_own f each n [] = tt
+numbered_own f each n (x ∷ xs) = or_own (f n x) (first_numbered f (n + 1) xs) (each n x) (numbered_own f each (n + 1) xs)
+
+on_some_own : {X : Type 0} (f : X → Option LinkFault) (o : Option X) → ((x : X) → IsOwnOption (f x)) → IsOwnOption (option_map_or f o None)
+on_some_own f None each = tt
+on_some_own f (Some x) each = each x
+
+-- ---- findings
+
+or_fault_own : {A : Type 0} (fault : LinkFault) (found : Option A) → IsOwnFault fault → IsOwnFinding (or_fault fault found)
+or_fault_own fault None own = own
+or_fault_own fault (Some x) own = tt
+
+then_own : {A B : Type 0} (r : Result A LinkFault) (f : A → Result B LinkFault) → IsOwnFinding r → ((x : A) → IsOwnFinding (f x)) → IsOwnFinding (then_on r f)
+then_own (Ok x) f own later = later x
+then_own (Err fault) f own later = own
+
+of_own : {A : Type 0} (r : Result A LinkFault) → IsOwnFinding r → IsOwnOption (fault_of r)
+of_own (Ok x) own = tt
+of_own (Err fault) own = own
+
+by_own : {A : Type 0} (b : Bool) (x y : Result A LinkFault) → IsOwnFinding x → IsOwnFinding y → IsOwnFinding (if b then x else y)
+by_own true x y own other = own
+by_own false x y own other = other
+
+-- ---- classes
+
+list_own : (classes : List Loaded) → IsOwnOption (rules.list_fault classes)
+unfolding rules.list_fault
+list_own classes =
+    or_own _ _ (unless_own _ _ tt)
+    (or_own _ _ (first_own _ (λ l. unless_own _ _ tt) classes) (numbered_own _ (λ n l. unless_own _ _ tt) 0 classes))
+
+known_own : (P : ProgramTables) (name : List ℕ) → IsOwnOption (rules.known_fault P name)
+unfolding rules.known_fault
+known_own P name = unless_own (rules.is_known P name) (faults.NoClass name) tt
+
+above_own : (P : ProgramTables) (c : ℕ) (e : ClassInfo) (parts : ClassParts) → IsOwnOption (rules.above_fault P c e parts)
+unfolding rules.above_fault rules.named_above_fault
+above_own P c e parts =
+    or_own _ _ (or_own _ _ (known_own P _) (first_own _ (λ i. known_own P _) parts.interfaces))
+    (or_own _ _ (unless_own _ _ tt) (unless_own _ _ tt))
+
+cycle_own : (P : ProgramTables) (c : ℕ) (e : ClassInfo) (parts : ClassParts) → IsOwnOption (rules.cycle_fault P c e parts)
+unfolding rules.cycle_fault
+cycle_own P c e parts = unless_own _ _ tt
+
+override_own : (P : ProgramTables) (name : List ℕ) (m : ℕ) → IsOwnOption (rules.override_fault P name m)
+unfolding rules.override_fault
+override_own P name m = on_some_own _ _ (λ i. unless_own _ _ tt)
+
+base_own : (P : ProgramTables) (base : DescBase) → IsOwnOption (rules.base_fault P base)
+base_own P (bases.Object name) = known_own P name
+base_own P bases.Bool = tt
+base_own P bases.Byte = tt
+base_own P bases.Char = tt
+base_own P bases.Short = tt
+base_own P bases.Int = tt
+base_own P bases.Long = tt
+
+field_own : (P : ProgramTables) (pool : List PoolEntry) (desc : ℕ) → IsOwnOption (rules.field_fault P pool desc)
+unfolding rules.field_fault
+field_own P pool desc = first_own (rules.desc_fault P) (λ d. base_own P d.base) _
+
+method_own : (P : ProgramTables) (pool : List PoolEntry) (desc : ℕ) → IsOwnOption (rules.method_fault P pool desc)
+unfolding rules.method_fault
+method_own P pool desc = first_own (rules.desc_fault P) (λ d. base_own P d.base) _
+
+members_own : (P : ProgramTables) (c : ℕ) (e : ClassInfo) (parts : ClassParts) → IsOwnOption (rules.members_fault P c e parts)
+unfolding rules.members_fault
+members_own P c e parts =
+    or_own _ _ (unless_own _ _ tt)
+    (or_own _ _ (unless_own _ _ tt)
+    (or_own _ _ (first_own _ (λ m. override_own P e.name m) _)
+    (or_own _ _ (first_own _ (λ f. field_own P parts.pool f.desc) parts.fields)
+    (first_own _ (λ m. method_own P parts.pool m.desc) parts.methods))))
+
+each_class : (rule : Rule) (P : ProgramTables) → ((c : ℕ) (e : ClassInfo) (parts : ClassParts) → IsOwnOption (rule c e parts)) → IsOwnOption (first_class_fault rule P)
+unfolding first_class_fault
+each_class rule P each = numbered_own (on_loaded rule) (λ c e. on_some_own (rule c e) e.read (λ parts. each c e parts)) 0 P.classes
+
+classes_own : (P : ProgramTables) → IsOwnOption (classes_fault P)
+unfolding classes_fault
+classes_own P =
+    or_own _ _ (each_class (rules.above_fault P) P (above_own P))
+    (or_own _ _ (each_class (rules.cycle_fault P) P (cycle_own P)) (each_class (rules.members_fault P) P (members_own P)))
+
+-- ---- code
+
+kind_own : (P : ProgramTables) (bytes : List ℕ) → IsOwnFinding (sites.kind_named P bytes)
+unfolding sites.kind_named
+kind_own P bytes = or_fault_own _ _ tt
+
+slot_own : (P : ProgramTables) (p : Place) (name desc : List ℕ) (k : Kind) → IsOwnFinding (sites.slot_found P p name desc k)
+slot_own P p name desc k =
+    then_own _ _ (or_fault_own _ _ tt) (λ c. then_own _ _ (or_fault_own _ _ tt) (λ s. tt))
+
+method_found_own : (P : ProgramTables) (p : Place) (code : ℕ) (name desc : List ℕ) (k : Kind) → IsOwnFinding (sites.method_found P p code name desc k)
+method_found_own P p code name desc k =
+    then_own _ _ (or_fault_own _ _ tt) (λ c. then_own _ _ (or_fault_own _ _ tt) (λ m. by_own _ _ _ tt tt))
+
+member_own : (P : ProgramTables) (pool : List PoolEntry) (search_in : sites.Search) → ((name desc : List ℕ) (k : Kind) → IsOwnFinding (search_in name desc k)) → (e : PoolEntry) → IsOwnFinding (sites.by_member P pool search_in e)
+member_own P pool search_in each (FieldRef «class» member) = then_own _ _ (kind_own P _) (λ k. each _ _ k)
+member_own P pool search_in each (MethodRef «class» member) = then_own _ _ (kind_own P _) (λ k. each _ _ k)
+member_own P pool search_in each (InterfaceMethodRef «class» member) = then_own _ _ (kind_own P _) (λ k. each _ _ k)
+member_own P pool search_in each e = tt
+
+constant_own : (e : PoolEntry) → IsOwnFinding (sites.constant_found e)
+constant_own (Integer n) = tt
+constant_own (Long n) = tt
+constant_own e = tt
+
+entry_own : (next : PoolEntry → Finding Resolved) (o : Option PoolEntry) (r : Resolved) → ((e : PoolEntry) → IsOwnFinding (next e)) → IsOwnFinding (option_map_or next o (Ok r))
+entry_own next None r each = tt
+entry_own next (Some e) r each = each e
+
+family_own : (P : ProgramTables) (p : Place) (pool : List PoolEntry) (code index : ℕ) (family : Family) → IsOwnFinding (sites.found_by P p pool code index family)
+family_own P p pool code index F8 = entry_own _ _ _ constant_own
+family_own P p pool code index F30 = entry_own _ _ _ (member_own P pool _ (slot_own P p))
+family_own P p pool code index F31 = entry_own _ _ _ (member_own P pool _ (slot_own P p))
+family_own P p pool code index F32 = entry_own _ _ _ (member_own P pool _ (method_found_own P p code))
+family_own P p pool code index F33 = then_own _ _ (kind_own P _) (λ k. by_own _ _ _ tt tt)
+family_own P p pool code index F34 = then_own _ _ (kind_own P _) (λ k. tt)
+family_own P p pool code index F37 = then_own _ _ (kind_own P _) (λ k. tt)
+family_own P p pool code index family = tt
+
+index_own : (f : ℕ → Finding Resolved) (o : Option ℕ) (r : Resolved) → ((i : ℕ) → IsOwnFinding (f i)) → IsOwnFinding (option_map_or f o (Ok r))
+index_own f None r each = tt
+index_own f (Some i) r each = each i
+
+code_own : (P : ProgramTables) (i : MethodInfo) → IsOwnOption (sites.code_fault P i)
+unfolding sites.code_fault sites.instr_found
+code_own P i =
+    first_own _ (λ n. of_own _ (index_own _ _ _ (λ index. family_own P _ _ n.row.code index n.row.family))) _
+
+handler_own : (P : ProgramTables) (pool : List PoolEntry) (h : Handler) → IsOwnOption (sites.handler_fault P pool h)
+unfolding sites.handler_fault
+handler_own P pool h = by_zero (h.catch_type == 0)
+  where
+    by_zero : (b : Bool) → IsOwnOption (if b then None else fault_of (sites.kind_at P pool h.catch_type))
+    by_zero true = tt
+    by_zero false = of_own _ (kind_own P _)
+
+type_own : (P : ProgramTables) (t : MapType) → IsOwnOption (sites.type_fault P t)
+type_own P (map_types.Object d) = base_own P d.base
+type_own P t = tt
+
+around_own : (P : ProgramTables) (i : MethodInfo) → IsOwnOption (sites.around_fault P i)
+unfolding sites.around_fault sites.map_fault
+around_own P i =
+    or_own _ _ (first_own _ (handler_own P _) _) (first_own _ (λ f. first_own (sites.type_fault P) (type_own P) _) _)
+
+codes_own : (P : ProgramTables) → IsOwnOption (code_faults P)
+unfolding code_faults
+codes_own P = or_own _ _ (first_own (sites.code_fault P) (code_own P) P.methods) (first_own (sites.around_fault P) (around_own P) P.methods)
+
+-- ---- the whole, and the look-up
+
+pub links_own : (classes : List Loaded) → IsOwnOption (link_fault classes)
+unfolding link_fault
+links_own classes =
+    or_own _ _ (list_own classes)
+    (or_own _ _ (classes_own (outline classes)) (codes_own (laid_out (outline classes))))
+
+pub main_own : (P : ProgramTables) (name : List ℕ) → IsOwnFinding (main_of P name)
+unfolding main_of
+main_own P name = then_own _ _ (or_fault_own _ _ tt) (λ c. or_fault_own _ _ tt)
