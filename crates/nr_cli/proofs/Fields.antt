@@ -1,6 +1,7 @@
 -- What the linker is given of a class that was read.
-use Rattle.std.proofs.Common.{◌≡◌, ℕ, ◌<◌, ◌^◌, List, length, sym, subst, arith}
+use Rattle.std.proofs.Common.{◌≡◌, ℕ, ◌+◌, ◌<◌, ◌≤◌, ◌^◌, List, [], ◌∷◌, ◌++◌, length, min, sym, subst, arith}
 use Rattle.std.specs.List.{All}
+use Rattle.std.proofs.lemmas.List.Elements.{All-append, All-cons, All-nil}
 use Rattle.nr_prog.specs.declared.parts.ClassParts.{ClassParts}
 use Rattle.nr_prog.specs.declared.body.loaded.Loaded.{Loaded}
 use Rattle.nr_prog.specs.BodyText.{HasBodies}
@@ -26,3 +27,11 @@ readable l bytes reads bodies formed bounds texts = record {
   texts = texts;
   few_fields = few_fields l.«class» bytes reads.0;
 }
+
+-- with one more, where the files aren't too long together
+pub one_more : (old new : List Loaded) (old_len new_len len : ℕ) (l : Loaded) → new_len ≡ min (old_len + len) 67108865 → (new_len ≤ 67108864 → new ≡ old ++ l ∷ [])
+    → IsReadable l → (old_len ≤ 67108864 → All IsReadable old) → new_len ≤ 67108864 → All IsReadable new
+one_more old new old_len new_len len l lens is own before few =
+    let fewer : old_len ≤ 67108864 = omega (arith, lens, few) in
+    subst (All IsReadable) (sym (is few))
+    (All-append IsReadable old (l ∷ []) (before fewer) (All-cons IsReadable l [] own (All-nil IsReadable)))

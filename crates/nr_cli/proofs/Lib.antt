@@ -4,6 +4,8 @@ pub mod Counts
 pub mod Files
 pub mod Listed
 pub mod Parts
+pub mod Dimensions
+pub mod Prepared
 pub mod Runnable
 pub mod Fields
 pub mod Runs

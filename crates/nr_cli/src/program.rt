@@ -14,6 +14,7 @@ use nr_prog::Loaded;
 use nr_verify::{VerifyFault, verify};
 use std::alloc::Global;
 
+#[tactic(auto, using(crate::proofs::Prepared::linked_is))]
 fn linked(alloc: Global, classes: Items<Loaded>) -> Result<Program, End>
     requires { All IsReadable classes }
     ensures program { (result ≡ Err End.Memory) ⊎ (result ≡ linked_of classes) }

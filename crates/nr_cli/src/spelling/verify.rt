@@ -43,10 +43,11 @@ fn put_base(text: &mut Put, p: &Program, base: Base) -> Result<(), AllocError>
 }
 
 // The descriptor of an array.
+#[tactic(auto, using(crate::proofs::Dimensions::none_yet, crate::proofs::Dimensions::one_more))]
 fn put_array(text: &mut Put, p: &Program, kind: Kind) -> Result<(), AllocError>
     ensures { OnOk result (text.new ≡ text.old ++ kind_text p.now kind) }
 {
-    for _ in 0..kind.dims {
+    for dim in 0..kind.dims {
         text.bytes(b"[")?;
     }
     put_base(text, p, kind.base)
