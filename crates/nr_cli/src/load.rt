@@ -175,7 +175,6 @@ impl ReadClasses {
 }
 
 // Reads the class file at a path and puts it to the others.
-#[tactic(auto, using(crate::proofs::Fields::one_more))]
 fn load_next<F: Folder>(
     alloc: Global,
     folder: &mut F,

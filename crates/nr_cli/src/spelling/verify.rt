@@ -154,6 +154,36 @@ fn put_check(
     put_at(alloc, text, class, method, at)
 }
 
+fn put_mismatch(
+    alloc: Global,
+    text: &mut Put,
+    class: &Name,
+    method: &MethodName,
+    at: u32,
+) -> Result<(), AllocError>
+    ensures { OnOk result
+        (text.new ≡ text.old ++ (codes "MapMismatch " ++ spelled_at class.now method.now at)) }
+{
+    put_check(alloc, text, b"MapMismatch ", class, method, at)
+}
+
+fn put_handler(
+    alloc: Global,
+    text: &mut Put,
+    class: &Name,
+    method: &MethodName,
+    at: u32,
+    index: u16,
+) -> Result<(), AllocError>
+    ensures { OnOk result (text.new ≡ text.old
+        ++ (codes "HandlerMismatch " ++ spelled_at class.now method.now at ++ codes " " ++ decimal index)) }
+{
+    text.bytes(b"HandlerMismatch ")?;
+    put_at(alloc, text, class, method, at)?;
+    text.bytes(b" ")?;
+    text.bytes(format!(in alloc; "{index}")?.as_bytes())
+}
+
 fn put_verify(
     alloc: Global,
     text: &mut Put,
@@ -169,15 +199,12 @@ fn put_verify(
             put_op(alloc, text, p, *op)
         }
         VerifyFault::NoMap(class, m, at) => put_check(alloc, text, b"NoMap ", class, m, *at),
-        VerifyFault::MapMismatch(class, m, at) => {
-            put_check(alloc, text, b"MapMismatch ", class, m, *at)
-        }
+        VerifyFault::MapMismatch(class, m, at) => put_mismatch(alloc, text, class, m, *at),
         VerifyFault::FallsOff(class, m, at) => {
             put_check(alloc, text, b"FallsOff ", class, m, *at)
         }
         VerifyFault::HandlerMismatch(class, m, at, index) => {
-            put_check(alloc, text, b"HandlerMismatch ", class, m, *at)?;
-            text.bytes(format!(in alloc; " {index}")?.as_bytes())
+            put_handler(alloc, text, class, m, *at, *index)
         }
         VerifyFault::NoMemory => text.bytes(b"NoMemory"),
     }
