@@ -167,6 +167,30 @@ fn put_mismatch(
     put_check(alloc, text, b"MapMismatch ", class, method, at)
 }
 
+fn put_number(alloc: Global, text: &mut Put, number: u16) -> Result<(), AllocError>
+    ensures { OnOk result (text.new ≡ text.old ++ decimal number) }
+{
+    text.bytes(format!(in alloc; "{number}")?.as_bytes())
+}
+
+// A check, the place in whose code it fails, and a number.
+fn put_numbered_check(
+    alloc: Global,
+    text: &mut Put,
+    check: &[u8],
+    class: &Name,
+    method: &MethodName,
+    at: u32,
+    number: u16,
+) -> Result<(), AllocError>
+    ensures { OnOk result (text.new ≡ text.old
+        ++ (check.now ++ spelled_at class.now method.now at ++ codes " " ++ decimal number)) }
+{
+    put_check(alloc, text, check, class, method, at)?;
+    text.bytes(b" ")?;
+    put_number(alloc, text, number)
+}
+
 fn put_handler(
     alloc: Global,
     text: &mut Put,
@@ -178,10 +202,7 @@ fn put_handler(
     ensures { OnOk result (text.new ≡ text.old
         ++ (codes "HandlerMismatch " ++ spelled_at class.now method.now at ++ codes " " ++ decimal index)) }
 {
-    text.bytes(b"HandlerMismatch ")?;
-    put_at(alloc, text, class, method, at)?;
-    text.bytes(b" ")?;
-    text.bytes(format!(in alloc; "{index}")?.as_bytes())
+    put_numbered_check(alloc, text, b"HandlerMismatch ", class, method, at, index)
 }
 
 fn put_verify(
