@@ -11,3 +11,6 @@ pub mod Numbered
 pub mod Named
 pub mod Steps
 pub mod Apart
+pub mod Marks
+pub mod Hiding
+pub mod Layouts

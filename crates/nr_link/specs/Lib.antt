@@ -2,3 +2,6 @@ pub mod Seen
 pub mod Barren
 pub mod Entries
 pub mod BuiltInEntries
+pub mod Finals
+pub mod Marks
+pub mod Laid
