@@ -8,6 +8,8 @@ pub mod Texts
 pub mod Outlines
 pub mod Parts
 pub mod Numbered
-pub mod Named
+pub mod NamedClasses
 pub mod Steps
 pub mod Apart
+pub mod ClassTexts
+pub mod Interfaces

@@ -2,3 +2,4 @@ pub mod Seen
 pub mod Barren
 pub mod Entries
 pub mod BuiltInEntries
+pub mod Declaring

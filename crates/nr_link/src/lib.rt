@@ -13,9 +13,13 @@ mod gathering;
 mod kinds;
 mod known;
 mod list;
+mod mains;
+mod methods;
+mod named;
 mod names;
 mod outline;
 mod service;
 mod tables;
 
+pub use mains::find_main;
 pub use service::find_service;
