@@ -67,7 +67,7 @@ zips f i xs x y before after out z total lt here is e so_far =
     first : map f (zip (drop i xs) before) ≡ f (get_or xs i x, y) ∷ map f (zip (drop (i + 1) xs) after)
     first = ap (λ ys. map f (zip (drop i xs) ys)) is ∙ rw (drop-cons xs i x lt, add-one i) refl
 
-none_zip : {X Y : Type 0} (xs : List X) → zip {K = X} {X = Y} xs [] ≡ []
+pub none_zip : {X Y : Type 0} (xs : List X) → zip {K = X} {X = Y} xs [] ≡ []
 none_zip [] = refl
 none_zip (x ∷ xs) = refl
 

@@ -5,3 +5,5 @@ pub mod BuiltInEntries
 pub mod Finals
 pub mod Marks
 pub mod Laid
+pub mod Declaring
+pub mod Around
