@@ -8,6 +8,12 @@ pub mod Texts
 pub mod Outlines
 pub mod Parts
 pub mod Numbered
-pub mod Named
+pub mod NamedClasses
 pub mod Steps
 pub mod Apart
+pub mod Marks
+pub mod Hiding
+pub mod Layouts
+pub mod ClassTexts
+pub mod Interfaces
+pub mod Places

@@ -2,3 +2,8 @@ pub mod Seen
 pub mod Barren
 pub mod Entries
 pub mod BuiltInEntries
+pub mod Finals
+pub mod Marks
+pub mod Laid
+pub mod Declaring
+pub mod Around
