@@ -13,3 +13,7 @@ pub mod Steps
 pub mod Apart
 pub mod ClassTexts
 pub mod Interfaces
+pub mod Codes
+pub mod Prepared
+pub mod SiteFaults
+pub mod CodedMethods

@@ -3,3 +3,7 @@ pub mod Barren
 pub mod Entries
 pub mod BuiltInEntries
 pub mod Declaring
+pub mod Naming
+pub mod Ready
+pub mod Coded
+pub mod Finished

@@ -7,6 +7,7 @@ mod above;
 mod built_in;
 mod built_in_methods;
 mod closure;
+mod code;
 mod cycles;
 mod fields;
 mod gathering;
@@ -19,6 +20,7 @@ mod named;
 mod names;
 mod outline;
 mod service;
+mod sites;
 mod tables;
 
 pub use mains::find_main;
