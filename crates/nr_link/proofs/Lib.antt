@@ -17,3 +17,6 @@ pub mod Codes
 pub mod Prepared
 pub mod SiteFaults
 pub mod CodedMethods
+pub mod Marks
+pub mod Hiding
+pub mod Layouts

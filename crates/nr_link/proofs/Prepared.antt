@@ -185,9 +185,9 @@ module _ (classes : List Loaded) (all : All IsReadable classes) (few_loaded : le
   few_methods : method_count classes ≤ 1024 * 65536
   few_methods =
       let each = few_each (λ (l : Loaded). l.«class».methods) 65536 classes (λ k l at.
-          let short = slice_get_within classes k l at in
-          let here = subst IsReadable (get_or_from_slice_get classes k l l at) (all k l short) in
-          let bound = here.decoded.bounds.methods in omega (arith, bound)) in
+      let short = slice_get_within classes k l at in
+      let here = subst IsReadable (get_or_from_slice_get classes k l l at) (all k l short) in
+      let bound = here.decoded.bounds.methods in omega (arith, bound)) in
       omega (arith, each, few_loaded)
 
   pub method_total : length L.methods ≡ method_count classes + built_in_method_count

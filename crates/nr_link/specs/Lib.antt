@@ -7,3 +7,6 @@ pub mod Naming
 pub mod Ready
 pub mod Coded
 pub mod Finished
+pub mod Finals
+pub mod Marks
+pub mod Laid
