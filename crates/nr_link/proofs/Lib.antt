@@ -20,3 +20,4 @@ pub mod CodedMethods
 pub mod Marks
 pub mod Hiding
 pub mod Layouts
+pub mod Places

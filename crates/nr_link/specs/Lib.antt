@@ -10,3 +10,4 @@ pub mod Finished
 pub mod Finals
 pub mod Marks
 pub mod Laid
+pub mod Around

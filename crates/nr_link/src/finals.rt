@@ -5,7 +5,7 @@ ghost use Rattle.std.specs.List.{filter, flat_map, list_any, range_with_len};
 ghost use Rattle.nr_prog.specs.Members.{is_static};
 ghost use Rattle.nr_linked.specs.Programs.{methods_of};
 ghost use Rattle.nr_linked.specs.Selection.{is_private};
-ghost use Rattle.nr_linkrules.specs.ClassRules.{hides_final, method_name, override_fault};
+ghost use Rattle.nr_linkrules.specs.ClassRules.{hides_final, override_fault};
 ghost use Rattle.nr_linkrules.specs.Faults.{Finds, first_of};
 ghost use Rattle.nr_linkrules.specs.Reaches.{HasSteps, reaches, rows_of};
 ghost use Rattle.nr_link.specs.Finals.{finals_in, finals_of, finals_with, hides_one, is_called_as, is_open_final, is_open_final_at};
@@ -15,7 +15,7 @@ use crate::closure::reaches;
 use crate::gathering::push_if;
 use crate::tables::{FINAL, PRIVATE, STATIC, has_flag};
 use nr_base::{Items, Name};
-use nr_linked::{ClassId, MethodInfo, MethodName, ProgramTables};
+use nr_linked::{ClassId, MethodInfo, ProgramTables};
 use nr_linkrules::LinkFault;
 use std::alloc::Global;
 use std::ops::Range;
@@ -163,17 +163,6 @@ fn hides_final(
     is_open(method) && hides_any(tables, rows, finals, method)
 }
 
-/// The method by its name and its descriptor. The error comes only for want of memory.
-pub fn method_name(method: &MethodInfo) -> Result<MethodName, LinkFault>
-    ensures name { IfOk result (λ name. name ≡ method_name method.now) }
-    ensures err { IsOkUnless result LinkFault.NoMemory }
-{
-    Ok(MethodName {
-        name: copied(&method.name)?,
-        desc: copied(&method.desc)?,
-    })
-}
-
 #[tactic(auto, unfolding(nr_linkrules::specs::ClassRules::override_fault))]
 fn check_override(
     tables: &ProgramTables,
@@ -192,7 +181,7 @@ fn check_override(
     };
     if hides_final(tables, rows, finals, info) {
         let name = copied(name)?;
-        return Err(LinkFault::FinalOverride(name, method_name(info)?));
+        return Err(LinkFault::FinalOverride(name, info.method_name()?));
     }
     Ok(())
 }

@@ -4,6 +4,7 @@
 #![tactic(auto)]
 
 mod above;
+mod around;
 mod built_in;
 mod built_in_methods;
 mod closure;
@@ -11,6 +12,7 @@ mod code;
 mod cycles;
 mod fields;
 mod finals;
+mod frames;
 mod gathering;
 mod kinds;
 mod known;
