@@ -11,9 +11,13 @@ pub mod Numbered
 pub mod NamedClasses
 pub mod Steps
 pub mod Apart
+pub mod ClassTexts
+pub mod Interfaces
+pub mod Codes
+pub mod Prepared
+pub mod SiteFaults
+pub mod CodedMethods
 pub mod Marks
 pub mod Hiding
 pub mod Layouts
-pub mod ClassTexts
-pub mod Interfaces
 pub mod Places

@@ -8,6 +8,7 @@ mod around;
 mod built_in;
 mod built_in_methods;
 mod closure;
+mod code;
 mod cycles;
 mod fields;
 mod finals;
@@ -24,6 +25,7 @@ mod named;
 mod names;
 mod outline;
 mod service;
+mod sites;
 mod tables;
 
 pub use mains::find_main;
