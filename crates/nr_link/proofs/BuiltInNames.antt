@@ -1,6 +1,6 @@
 -- The names and descriptors of the built-in classes are names.
-use Rattle.std.proofs.Common.{◌≡◌, ℕ, ◌+◌, ◌<◌, ◌^◌, List, [], ◌∷◌, ◌++◌, Bool, true, false, length, refl, sym, ap, ◌∙◌, ◌/◌, ◌%◌, arith, cond}
-use Rattle.std.specs.Prelude.{IsTrue, ◌&&◌, nat_le, codes}
+use Rattle.std.proofs.Common.{◌≡◌, ℕ, ◌+◌, ◌<◌, ◌^◌, List, [], ◌∷◌, ◌++◌, Bool, true, length, refl, sym, ap, ◌∙◌, ◌/◌, ◌%◌, arith, cond}
+use Rattle.std.specs.Prelude.{IsTrue, nat_le, codes}
 use Rattle.std.specs.List.{list_all, flat_map, AllByRecursion}
 use Rattle.std.proofs.lemmas.Bool.{and_parts, leb-true}
 use Rattle.nr_base.specs.ModifiedUtf8.{IsModifiedUtf8, IsUnit, unit_bytes, within}

@@ -8,6 +8,16 @@ pub mod Texts
 pub mod Outlines
 pub mod Parts
 pub mod Numbered
-pub mod Named
+pub mod NamedClasses
 pub mod Steps
 pub mod Apart
+pub mod ClassTexts
+pub mod Interfaces
+pub mod Codes
+pub mod Prepared
+pub mod SiteFaults
+pub mod CodedMethods
+pub mod Marks
+pub mod Hiding
+pub mod Layouts
+pub mod Places

@@ -2,6 +2,8 @@
 use Rattle.std.proofs.Common.{◌≡◌, ℕ, suc, ◌+◌, ◌-◌, ◌<◌, ◌≤◌, Bool, true, false, cond, List, [], ◌∷◌, ◌++◌, length, get_or, drop, map, refl, sym, ap, ◌∙◌, add-one, drop-cons, append_assoc, arith}
 use Rattle.std.specs.List.{filter, flat_map, range_with_len, zip}
 use Rattle.std.proofs.lemmas.List.{drop_all, nil_from_length}
+use Rattle.std.proofs.lemmas.Grind.{flat_map-append}
+use Rattle.std.proofs.lemmas.List.Folds.{flat_map-map}
 use Rattle.std.proofs.lemmas.List.FromFn.{map-range_with_len_more}
 
 pub append_nil : {X : Type 0} (xs : List X) → xs ++ [] ≡ xs
@@ -65,7 +67,7 @@ zips f i xs x y before after out z total lt here is e so_far =
     first : map f (zip (drop i xs) before) ≡ f (get_or xs i x, y) ∷ map f (zip (drop (i + 1) xs) after)
     first = ap (λ ys. map f (zip (drop i xs) ys)) is ∙ rw (drop-cons xs i x lt, add-one i) refl
 
-none_zip : {X Y : Type 0} (xs : List X) → zip {K = X} {X = Y} xs [] ≡ []
+pub none_zip : {X Y : Type 0} (xs : List X) → zip {K = X} {X = Y} xs [] ≡ []
 none_zip [] = refl
 none_zip (x ∷ xs) = refl
 
@@ -85,6 +87,20 @@ zipped f i xs before out total le so_far =
 pub counts_on : {Y : Type 0} (f : ℕ → Y) (n : ℕ) (out : List Y) (y : Y) → y ≡ f n → out ≡ map f (range_with_len 0 n) → out ++ y ∷ [] ≡ map f (range_with_len 0 (n + 1))
 counts_on f n out y e so_far =
     ap (λ ys. ys ++ y ∷ []) so_far ∙ ap (λ y. map f (range_with_len 0 n) ++ y ∷ []) e ∙ sym (map-range_with_len_more f 0 n n (omega arith))
+
+-- ---- some for each number
+
+more_up : {Y : Type 0} (f : ℕ → List Y) (n : ℕ) → flat_map f (range_with_len 0 (n + 1)) ≡ flat_map f (range_with_len 0 n) ++ f n
+more_up f n =
+    sym (flat_map-map f (λ x. x) (range_with_len 0 (n + 1)))
+    ∙ ap (flat_map f) (map-range_with_len_more (λ x. x) 0 n n (omega arith))
+    ∙ flat_map-append f (map (λ x. x) (range_with_len 0 n)) (n ∷ [])
+    ∙ ap (λ ys. flat_map f (map (λ x. x) (range_with_len 0 n)) ++ ys) (append_nil (f n))
+    ∙ ap (λ ys. ys ++ f n) (flat_map-map f (λ x. x) (range_with_len 0 n))
+
+pub gathers_up : {Y : Type 0} (f : ℕ → List Y) (n : ℕ) (out longer : List Y) → longer ≡ out ++ f n → out ≡ flat_map f (range_with_len 0 n)
+    → longer ≡ flat_map f (range_with_len 0 (n + 1))
+gathers_up f n out longer e so_far = e ∙ ap (λ ys. ys ++ f n) so_far ∙ sym (more_up f n)
 
 -- ---- the numbers that pass a test
 

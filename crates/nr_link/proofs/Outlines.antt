@@ -1,18 +1,17 @@
 -- The loop that makes the outline of the loaded classes, one after the other.
-use Rattle.std.proofs.Common.{◌≡◌, ℕ, zero, suc, ◌+◌, ◌*◌, ◌<◌, ◌≤◌, ◌^◌, List, [], ◌∷◌, ◌++◌, length, get_or, map, refl, sym, ap, subst, ◌∙◌, arith, append_assoc, length-append}
-use Rattle.std.specs.Prelude.{Option, Some, None, All, slice_get}
+use Rattle.std.proofs.Common.{◌≡◌, ℕ, suc, ◌+◌, ◌*◌, ◌≤◌, ◌^◌, List, [], ◌∷◌, ◌++◌, length, map, refl, sym, ap, subst, ◌∙◌, arith, append_assoc, length-append}
+use Rattle.std.specs.Prelude.{Option, All}
 use Rattle.std.specs.List.{flat_map, zip}
 use Rattle.std.proofs.lemmas.List.{length-map, nil_from_length}
 use Rattle.nr_prog.specs.declared.body.loaded.Loaded.{Loaded}
 use Rattle.nr_prog.specs.declared.body.whole.Body.{Body}
-use Rattle.nr_prog.specs.declared.member.Code.{Code}
 use Rattle.nr_prog.specs.declared.member.Method.{Method}
 use Rattle.nr_prog.specs.declared.parts.ClassParts.{ClassParts}
 use Rattle.nr_linked.specs.declared.program.tables.ClassInfo.{ClassInfo}
 use Rattle.nr_linked.specs.declared.program.tables.MethodInfo.{MethodInfo}
-use Rattle.nr_prog.specs.BodyText.{BodyFor, EachBody, HasBodies}
+use Rattle.nr_prog.specs.BodyText.{EachBody, HasBodies}
 use Rattle.nr_links.specs.Entries.{method_count}
-use Rattle.nr_linkrules.specs.Outline.{names_of, outline, outline_class, outline_classes, outline_method, outline_methods, own_name, own_names}
+use Rattle.nr_linkrules.specs.Outline.{outline_class, outline_classes, outline_method, outline_methods}
 use Rattle.nr_link.proofs.Loops.{append_nil}
 
 -- ---- counts

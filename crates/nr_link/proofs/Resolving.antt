@@ -35,15 +35,19 @@ none_more P test c n h none d lt p = elim (last d n lt) [
 pub none_at_first : (P : ProgramTables) (test : ℕ → Bool) (c : ℕ) → NoneBelow P test c 0
 none_at_first P test c d lt p = absurd (omega (arith, lt))
 
+-- where the test fails of what is no class
+pub barren_of : (P : ProgramTables) (test : ℕ → Bool) (c : ℕ) → HasSteps P → ((d : ℕ) → IsTrue (test d) → d < length P.classes) → NoneBelow P test c (length P.classes) → IsBarren P test c
+barren_of P test c short within none d above = false_from_ne_true (test d) (λ p.
+    Rattle.std.proofs.lemmas.Bool.both_ways (test d) (none d (within d p) ((reaches_above P short c d).1 above)) p)
+
 pub barren : (P : ProgramTables) (name desc : List ℕ) (c : ℕ) → HasSteps P → NoneBelow P (declares_field P name desc) c (length P.classes) → IsBarren P (declares_field P name desc) c
-barren P name desc c short none d above = false_from_ne_true (declares_field P name desc d) (λ p.
+barren P name desc c short none = barren_of P (declares_field P name desc) c short (λ d p.
     let r = passing (λ (e : ClassInfo). option_map_or (Rattle.nr_links.specs.Resolution.has_field name desc) e.read false) (class_at P d) p in
-    let e = none d (slice_get_within P.classes d r.0 r.1) ((reaches_above P short c d).1 above) in
-    Rattle.std.proofs.lemmas.Bool.both_ways (declares_field P name desc d) e p)
+    slice_get_within P.classes d r.0 r.1) none
 
 -- ---- the search upward
 
-find_both : (test : ℕ → Bool) (xs ys : List ℕ) → find test (xs ++ ys) ≡ option_or (find test xs) (find test ys)
+pub find_both : (test : ℕ → Bool) (xs ys : List ℕ) → find test (xs ++ ys) ≡ option_or (find test xs) (find test ys)
 find_both test [] ys = refl
 find_both test (x ∷ xs) ys = by_head (test x) (find_both test xs ys)
   where

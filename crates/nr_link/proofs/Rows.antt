@@ -1,5 +1,5 @@
 -- Rows of what stands above, built one class after the other.
-use Rattle.std.proofs.Common.{◌≡◌, ℕ, zero, suc, ◌+◌, ◌<◌, ◌≤◌, ◌&&◌, ◌||◌, Bool, true, false, List, ◌∷◌, [], ◌++◌, length, map, get_or, refl, sym, ap, ◌∙◌, arith}
+use Rattle.std.proofs.Common.{◌≡◌, ℕ, zero, suc, ◌+◌, ◌-◌, ◌<◌, ◌≤◌, ◌&&◌, ◌||◌, Bool, true, false, List, ◌∷◌, [], ◌++◌, length, map, get_or, drop, refl, sym, ap, ◌∙◌, arith}
 use Rattle.std.specs.Prelude.{◌==◌}
 use Rattle.std.specs.List.{list_any, range_with_len}
 use Rattle.std.specs.Option.{option_map_or, option_to_list}
@@ -44,6 +44,14 @@ parts P k n = map (row_of P k) (range_with_len 0 n)
 pub parts_more : (P : ProgramTables) (k n : ℕ) → parts P k n ++ row_of P k n ∷ [] ≡ parts P k (n + 1)
 parts_more P k n = sym (map-range_with_len_more (row_of P k) 0 n n (omega arith))
 
+pub parts_grow : (P : ProgramTables) (k n : ℕ) (out longer : List (List Bool)) (row : List Bool) → longer ≡ out ++ row ∷ [] → row ≡ row_of P k n → out ≡ parts P k n
+    → longer ≡ parts P k (n + 1)
+parts_grow P k n out longer row e is so_far = e ∙ (λ i. so_far i ++ is i ∷ []) ∙ parts_more P k n
+
+pub parts_all : (P : ProgramTables) (k n : ℕ) (out : List (List Bool)) → n ≡ length P.classes → out ≡ parts P k n → out ≡ rows_of P k
+unfolding rows_of
+parts_all P k n out e so_far = so_far ∙ ap (parts P k) e
+
 pub rows_length : (P : ProgramTables) (k : ℕ) → length (rows_of P k) ≡ length P.classes
 unfolding rows_of
 rows_length P k = length-map-range_with_len (row_of P k) 0 (length P.classes)
@@ -51,6 +59,25 @@ rows_length P k = length-map-range_with_len (row_of P k) 0 (length P.classes)
 pub rows_at : (P : ProgramTables) (k c : ℕ) (r : List Bool) → c < length P.classes → get_or (rows_of P k) c r ≡ row_of P k c
 unfolding rows_of
 rows_at P k c r lt = get_or-map-range_with_len (row_of P k) 0 (length P.classes) c c r lt (omega arith)
+
+-- rows that are left, from one on
+pub all_left : (P : ProgramTables) (k : ℕ) (rows : List (List Bool)) → rows ≡ rows_of P k → rows ≡ map (row_of P k) (range_with_len 0 (length P.classes - 0))
+unfolding rows_of
+all_left P k rows e = let n : length P.classes - 0 ≡ length P.classes = omega arith in e ∙ ap (λ n. map (row_of P k) (range_with_len 0 n)) (sym n)
+
+module _ {X : Type 0} (f : ℕ → X) (i n : ℕ) (x : X) (before after : List X) (lt : i < n) (is : before ≡ x ∷ after)
+    (left : before ≡ map f (range_with_len i (n - i))) where
+  first_left : x ∷ after ≡ f i ∷ map f (range_with_len (i + 1) (n - (i + 1)))
+  first_left = sym is ∙ left ∙ ap (λ k. map f (range_with_len i k)) more
+    where
+      more : n - i ≡ suc (n - (i + 1))
+      more = omega (arith, lt)
+
+  pub this_left : x ≡ f i
+  this_left = ap (λ xs. get_or xs 0 x) first_left
+
+  pub others_left : after ≡ map f (range_with_len (i + 1) (n - (i + 1)))
+  others_left = ap (drop 1) first_left
 
 -- a row stays where the class more isn't above
 pub kept : (P : ProgramTables) (k c : ℕ) → reaches_by P k c k ≡ Rattle.std.proofs.Common.false → row_of P k c ≡ row_of P (k + 1) c

@@ -1,5 +1,5 @@
 -- Each step up of an outline leads to a class of it, and its entries have the names of the classes.
-use Rattle.std.proofs.Common.{◌≡◌, ℕ, zero, suc, ◌+◌, ◌<◌, ◌≤◌, ◌&&◌, Bool, true, false, List, [], ◌∷◌, ◌++◌, length, map, refl, sym, ap, subst, ◌∙◌, arith, length-append}
+use Rattle.std.proofs.Common.{◌≡◌, ℕ, zero, suc, ◌+◌, ◌<◌, Bool, true, false, List, [], ◌∷◌, ◌++◌, length, map, refl, sym, ap, subst, ◌∙◌, arith, length-append}
 use Rattle.std.specs.Prelude.{Option, Some, None, IsTrue, slice_get, nat_lt, ◌==◌, ◌||◌}
 use Rattle.std.specs.List.{flat_map, list_all, list_any}
 use Rattle.std.specs.Option.{option_and_then, option_map, option_map_or, option_to_list}
@@ -13,13 +13,12 @@ use Rattle.nr_prog.specs.BodyNames.{class_text_at}
 use Rattle.nr_linked.specs.declared.program.built_in.BuiltIn.{BuiltIn}
 use Rattle.nr_linked.specs.declared.program.built_in.BuiltIn.TheVariants.{Object, Cloneable, Throwable, Exception, Error, RuntimeException, ArithmeticException, ArrayStoreException, ClassCastException, IllegalArgumentException, IllegalStateException, IndexOutOfBoundsException, NegativeArraySizeException, NullPointerException, ArrayIndexOutOfBoundsException, LinkageError, IncompatibleClassChangeError, AbstractMethodError, Serializable, Restorable, Out, RemoteFault}
 use Rattle.nr_linked.specs.declared.program.tables.ClassInfo.{ClassInfo}
-use Rattle.nr_linked.specs.declared.program.tables.ProgramTables.{ProgramTables}
 use Rattle.nr_linked.specs.BuiltIns.{built_in_class, built_in_count, number}
 use Rattle.nr_linked.specs.BuiltInTables.{built_in_info, built_in_infos, built_ins}
 use Rattle.nr_linked.specs.Programs.{class_at}
 use Rattle.nr_links.specs.Entries.{method_count}
 use Rattle.nr_linkrules.specs.Outline.{class_number, names_of, number_in, outline, outline_class, outline_classes, own_name, own_names}
-use Rattle.nr_linkrules.specs.Reaches.{HasSteps, is_step}
+use Rattle.nr_linkrules.specs.Reaches.{HasSteps}
 use Rattle.nr_link.proofs.Outlines.{class_count}
 
 -- ---- numbers below a bound

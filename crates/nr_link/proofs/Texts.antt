@@ -1,8 +1,6 @@
 -- The names and descriptors of a class's methods are names.
 use Rattle.std.proofs.Common.{◌≡◌, ℕ, List, refl}
 use Rattle.std.specs.Prelude.{Option, Some, None, All, IsSomeAnd}
-use Rattle.nr_base.specs.declared.desc.types.MethodDesc.{MethodDesc}
-use Rattle.nr_base.specs.Descs.{method_desc}
 use Rattle.nr_base.specs.ModifiedUtf8.{IsModifiedUtf8}
 use Rattle.nr_base.proofs.DescTexts.{desc_utf, method_utf}
 use Rattle.nr_prog.specs.declared.member.Field.{Field}

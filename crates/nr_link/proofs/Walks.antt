@@ -1,6 +1,7 @@
 -- A loop that looks for the first fault of a list: `total` is what the whole look-out finds.
-use Rattle.std.proofs.Common.{◌≡◌, ℕ, ◌+◌, ◌<◌, ◌≤◌, Bool, true, false, List, length, get_or, drop, Option, Some, None, refl, sym, ap, ◌∙◌, add-one, drop-cons}
+use Rattle.std.proofs.Common.{◌≡◌, ℕ, suc, ◌+◌, ◌-◌, ◌<◌, ◌≤◌, Bool, true, false, List, length, get_or, drop, Option, Some, None, refl, sym, ap, ◌∙◌, add-one, drop-cons, arith}
 use Rattle.std.specs.Bool.{MatchBool}
+use Rattle.std.specs.List.{range_with_len}
 use Rattle.std.specs.Option.{option_or}
 use Rattle.std.proofs.lemmas.List.{drop_all}
 use Rattle.nr_linkrules.specs.declared.fault.LinkFault.{LinkFault}
@@ -78,3 +79,29 @@ fails_at_of fault i xs x total e lt here f so_far = fails_in_of fault i xs x tot
 pub fails_at : {X : Type 0} (fault : ℕ → X → Option LinkFault) (m i : ℕ) (xs : List X) (x : X) (total : Option LinkFault) (e : LinkFault) → i < length xs → x ≡ get_or xs i x
     → Fails e (fault m x) → first_numbered fault m (drop i xs) ≡ total → Fails e total
 fails_at fault m i xs x total e lt here f so_far = fails_in fault m i xs x total e lt (Rattle.std.proofs.Common.subst (λ y. Fails e (fault m y)) here f) so_far
+
+-- ---- numbers, from one on
+
+module _ (fault : ℕ → Option LinkFault) where
+  one_up : (i end : ℕ) → i < end → first_of fault (range_with_len i (end - i)) ≡ option_or (fault i) (first_of fault (range_with_len (i + 1) (end - (i + 1))))
+  unfolding first_of
+  one_up i end lt = ap (λ n. first_of fault (range_with_len i n)) more
+    where
+      more : end - i ≡ suc (end - (i + 1))
+      more = omega (arith, lt)
+
+  pub goes_on_up : (i end : ℕ) (total : Option LinkFault) → i < end → fault i ≡ None → first_of fault (range_with_len i (end - i)) ≡ total
+      → first_of fault (range_with_len (i + 1) (end - (i + 1))) ≡ total
+  goes_on_up i end total lt none so_far =
+      sym (ap (λ o. option_or o (first_of fault (range_with_len (i + 1) (end - (i + 1))))) none) ∙ sym (one_up i end lt) ∙ so_far
+
+  pub ends_up : (i end : ℕ) (total : Option LinkFault) → end ≤ i → first_of fault (range_with_len i (end - i)) ≡ total → total ≡ None
+  unfolding first_of
+  ends_up i end total le so_far = sym so_far ∙ ap (λ n. first_of fault (range_with_len i n)) none
+    where
+      none : end - i ≡ 0
+      none = omega (arith, le)
+
+  pub fails_up : (i end : ℕ) (total : Option LinkFault) (e : LinkFault) → i < end → Fails e (fault i) → first_of fault (range_with_len i (end - i)) ≡ total → Fails e total
+  fails_up i end total e lt f so_far =
+      fails_on e (fault i) total (λ some. sym so_far ∙ one_up i end lt ∙ ap (λ o. option_or o (first_of fault (range_with_len (i + 1) (end - (i + 1))))) some) f

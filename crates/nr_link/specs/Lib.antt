@@ -2,3 +2,12 @@ pub mod Seen
 pub mod Barren
 pub mod Entries
 pub mod BuiltInEntries
+pub mod Declaring
+pub mod Naming
+pub mod Ready
+pub mod Coded
+pub mod Finished
+pub mod Finals
+pub mod Marks
+pub mod Laid
+pub mod Around

@@ -9,7 +9,6 @@ ghost use Rattle.nr_linkrules.specs.Reaches.{HasSteps, reaches, rows_of};
 
 use crate::above::copied;
 use crate::closure::reaches;
-use crate::tables::class_at;
 use nr_base::Items;
 use nr_linked::{ClassId, ClassInfo, ProgramTables};
 use nr_linkrules::LinkFault;
@@ -34,7 +33,7 @@ fn is_above_itself(tables: &ProgramTables, rows: &[Items<bool>], class: ClassId)
     requires steps { HasSteps tables.now }
     ensures { result ≡ is_above_itself tables.now class }
 {
-    let Some(info) = class_at(tables, class) else {
+    let Some(info) = tables.class_at(class) else {
         return false;
     };
     let interfaces = info.interfaces.as_slice();

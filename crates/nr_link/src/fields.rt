@@ -12,7 +12,6 @@ ghost use Rattle.nr_linkrules.specs.Reaches.{HasSteps, reaches, rows_of};
 ghost use Rattle.nr_link.specs.Barren.{IsBarren};
 
 use crate::closure::reaches;
-use crate::tables::{class_at, super_of};
 use nr_base::Items;
 use nr_linked::{ClassId, ProgramTables};
 use nr_prog::{Class, Field};
@@ -50,7 +49,7 @@ fn has_field(class: &Class, name: &[u8], desc: &[u8]) -> bool
 fn declares_field(tables: &ProgramTables, name: &[u8], desc: &[u8], class: ClassId) -> bool
     ensures { result ≡ declares_field tables.now name.now desc.now class }
 {
-    match class_at(tables, class) {
+    match tables.class_at(class) {
         Some(info) => match &info.read {
             Some(read) => has_field(read, name, desc),
             None => false,
@@ -63,7 +62,7 @@ fn declares_field(tables: &ProgramTables, name: &[u8], desc: &[u8], class: Class
 pub fn interfaces_of(tables: &ProgramTables, class: ClassId) -> &[ClassId]
     ensures { result.now ≡ interfaces_of tables.now class }
 {
-    match class_at(tables, class) {
+    match tables.class_at(class) {
         Some(info) => info.interfaces.as_slice(),
         None => &[],
     }
@@ -121,7 +120,7 @@ fn find_field(
             }
         }
     }
-    match super_of(tables, class) {
+    match tables.super_of(class) {
         Some(above) => find_field(tables, rows, name, desc, left - 1, above),
         None => None,
     }

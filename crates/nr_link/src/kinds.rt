@@ -13,7 +13,7 @@ use nr_linkrules::LinkFault;
 use std::alloc::Global;
 
 /// The number of the class of this name.
-#[tactic(auto, using(crate::proofs::Named::named_by_texts, crate::proofs::Named::as_many))]
+#[tactic(auto, using(crate::proofs::NamedClasses::named_by_texts, crate::proofs::NamedClasses::as_many))]
 pub fn class_named(tables: &ProgramTables, names: &IndexSet<&[u8]>, name: &[u8]) -> Option<ClassId>
     requires names { IsNamesOf tables.now names.now }
     requires few { length tables.now.classes < 2 ^ 32 }

@@ -4,18 +4,29 @@
 #![tactic(auto)]
 
 mod above;
+mod around;
 mod built_in;
 mod built_in_methods;
 mod closure;
+mod code;
 mod cycles;
 mod fields;
+mod finals;
+mod frames;
 mod gathering;
 mod kinds;
 mod known;
+mod layout;
 mod list;
+mod mains;
+mod members;
+mod methods;
+mod named;
 mod names;
 mod outline;
 mod service;
+mod sites;
 mod tables;
 
+pub use mains::find_main;
 pub use service::find_service;

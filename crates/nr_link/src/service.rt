@@ -27,7 +27,7 @@ pub fn find_service(program: &Program, service: &Name) -> Result<ClassId, LinkFa
     };
     let tables = program.tables();
     let first_built_in = tables.classes.len().saturating_sub(BuiltIn::COUNT);
-    if crate::tables::is_interface(tables, class) || class as usize >= first_built_in {
+    if tables.is_interface(class) || class as usize >= first_built_in {
         return Err(LinkFault::NoService(copied(service)?));
     }
     Ok(class)

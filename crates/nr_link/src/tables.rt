@@ -17,11 +17,13 @@ use nr_linked::{BuiltIn, ClassId, ClassInfo, ProgramTables, SlotInfo};
 
 pub const ABSTRACT: u16 = 0x0400;
 
+pub const PUBLIC: u16 = 0x0001;
+
+pub const PRIVATE: u16 = 0x0002;
+
 pub const STATIC: u16 = 0x0008;
 
 pub const FINAL: u16 = 0x0010;
-
-pub const INTERFACE: u16 = 0x0200;
 
 pub fn has_flag(flags: u16, flag: u16) -> bool
     ensures { result ≡ has_flag flag flags }
@@ -29,25 +31,10 @@ pub fn has_flag(flags: u16, flag: u16) -> bool
     flags & flag != 0
 }
 
-pub fn class_at(tables: &ProgramTables, class: ClassId) -> Option<&ClassInfo>
-    ensures { option_copied result ≡ class_at tables.now class }
-{
-    tables.classes.as_slice().get(class as usize)
-}
-
-pub fn is_interface(tables: &ProgramTables, class: ClassId) -> bool
-    ensures { result ≡ is_interface tables.now class }
-{
-    match class_at(tables, class) {
-        Some(info) => has_flag(info.flags, INTERFACE),
-        None => false,
-    }
-}
-
 fn is_final_class(tables: &ProgramTables, class: ClassId) -> bool
     ensures { result ≡ is_final_class tables.now class }
 {
-    match class_at(tables, class) {
+    match tables.class_at(class) {
         Some(info) => has_flag(info.flags, FINAL),
         None => false,
     }
@@ -63,8 +50,8 @@ fn is_super_in(tables: &ProgramTables, class: ClassId, above: ClassId) -> bool
     ensures { result ≡ is_super_in tables.now class above }
 {
     (above as usize) < tables.classes.len()
-        && !is_interface(tables, above)
-        && (!is_interface(tables, class) || is_object(tables, above))
+        && !tables.is_interface(above)
+        && (!tables.is_interface(class) || is_object(tables, above))
 }
 
 fn has_super_in(tables: &ProgramTables, class: ClassId, above: Option<ClassId>) -> bool
@@ -79,7 +66,7 @@ fn has_super_in(tables: &ProgramTables, class: ClassId, above: Option<ClassId>) 
 fn are_interfaces(tables: &ProgramTables, classes: &[ClassId]) -> bool
     ensures { result ≡ list_all (is_interface tables.now) classes.now }
 {
-    classes.iter().all(|class| is_interface(tables, *class))
+    classes.iter().all(|class| tables.is_interface(*class))
 }
 
 /// Whether the class's superclass is a class, and that of an interface `java/lang/Object`, and its
@@ -101,18 +88,11 @@ pub fn has_final_above(tables: &ProgramTables, info: &ClassInfo) -> bool
     }
 }
 
-/// The superclass, which `java/lang/Object` alone doesn't have.
-pub fn super_of(tables: &ProgramTables, class: ClassId) -> Option<ClassId>
-    ensures { result ≡ super_of tables.now class }
-{
-    class_at(tables, class)?.super_class
-}
-
 /// Whether the list of what stands above the class has this one.
 pub fn is_above(tables: &ProgramTables, class: ClassId, above: ClassId) -> bool
     ensures { result ≡ is_above tables.now class above }
 {
-    match class_at(tables, class) {
+    match tables.class_at(class) {
         Some(info) => info.supers.as_slice().contains(&above),
         None => false,
     }
@@ -121,7 +101,7 @@ pub fn is_above(tables: &ProgramTables, class: ClassId, above: ClassId) -> bool
 pub fn slots_of(tables: &ProgramTables, class: ClassId) -> &[SlotInfo]
     ensures { result.now ≡ slots_of tables.now class }
 {
-    match class_at(tables, class) {
+    match tables.class_at(class) {
         Some(info) => info.slots.as_slice(),
         None => &[],
     }

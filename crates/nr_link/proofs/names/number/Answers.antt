@@ -1,7 +1,7 @@
 use Rattle.std.proofs.Common.{◌∙◌}
 use Rattle.nr_link.specs.Seen.{texts}
 use Rattle.nr_linkrules.proofs.NameLaws.{place_text}
-use Rattle.nr_link.proofs.Named.{within}
+use Rattle.nr_link.proofs.NamedClasses.{within}
 use Rattle.nr_link.proofs.names.number.Goals as goal
 
 pub returns-clause-number : goal.returns-clause-number

@@ -1,0 +1,4 @@
+pub mod Methods
+pub mod Suits
+pub mod Searching
+pub mod Within
