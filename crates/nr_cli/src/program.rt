@@ -28,12 +28,12 @@ fn linked(alloc: Global, classes: Items<Loaded>) -> Result<Program, End>
     }
 }
 
-fn found(alloc: Global, program: &Program, main: &Name) -> Result<MethodId, End>
+fn found(program: &Program, main: &Name) -> Result<MethodId, End>
     ensures main { (result ≡ Err End.Memory) ⊎ (result ≡ found_in program.now main.now) }
     ensures words { result ≡ Err End.Words → ⊥ }
     ensures folder { result ≡ Err End.Folder → ⊥ }
 {
-    match find_main(alloc, program, main) {
+    match find_main(program, main) {
         Ok(method) => Ok(method),
         Err(LinkFault::NoMemory) => Err(End::Memory),
         Err(fault) => Err(End::Link(fault)),
@@ -78,7 +78,7 @@ pub fn prepare(
     ensures folder { result ≡ Err End.Folder → ⊥ }
 {
     let program = linked(alloc, classes)?;
-    let method = found(alloc, &program, main)?;
+    let method = found(&program, main)?;
     let verified = verified(alloc, program)?;
     Ok((verified, method))
 }

@@ -19,7 +19,7 @@ use std::alloc::Global;
 /// `run DIR MAIN BUDGET` and then 0 to 1,000 words INT links the class files of the folder DIR, verifies
 /// them, and runs the class MAIN for at most BUDGET steps. Other words are refused. The status is 0
 /// where `main` returned, 2 where the words fit no command, 3 where the folder failed, 4 where a class
-/// file is refused, 5 where the classes don't link or MAIN isn't there or has no `main`, 6 where the
+/// file is refused or the code of `main` isn't of the form that runs so far, 5 where the classes don't link or MAIN isn't there or has no `main`, 6 where the
 /// program isn't well typed, 9 where the run made BUDGET steps without an end, 11 where a sink failed
 /// and 12 where memory ran out.
 pub fn nrmi<F: Folder, W: Wire, O: Sink, E: Sink>(

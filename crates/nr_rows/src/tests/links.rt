@@ -1,4 +1,4 @@
-//! Classes that don't link, each by its first fault.
+//! Classes that don't link, or in which no `main` is found, or that aren't well typed, each by its fault.
 use crate::tests::scene::{Scene, run_over};
 use crate::tests::written::class_file;
 use std::process::Abort;
@@ -55,7 +55,20 @@ A 33 B & B 33 java/lang/Object m|9|main|([I)I|04.ac = NoMain A
 B 33 java/lang/Object m|9|main|([I)I|04.ac = NoClass A
 ";
 
-fn expect<R: AllocGlobal + Abort>(rt: &R, row: &str) {
+// The same, of programs that link and aren't well typed (JVM Specification 4.10.1).
+const TYPING: &str = "\
+A 33 java/lang/Object m|9|main|([I)I|04.ac||0.1.0.0 = HandlerMismatch A main([I)I 0 0
+A 33 java/lang/Object m|9|main|([I)I|04.ac|00.01.ff.00.01.00.00.00.00 = MapMismatch A main([I)I 1
+A 33 java/lang/Object c|A m|9|main|([I)I|bb.$0.ac = Op A main([I)I 3 NeedsKind 0 int uninit-0
+A 33 java/lang/Object m|9|main|([I)I|1b.ac = Op A main([I)I 0 NeedsKind 0 int top
+A 33 java/lang/Object m|1|<init>|()V|b1 m|9|main|([I)I|04.ac = Op A <init>()V 0 NeedsInit
+A 33 java/lang/Object m|1|<init>|()V|2a.60.b1 m|9|main|([I)I|04.ac = Op A <init>()V 1 NeedsKind 0 int uninit-this
+A 33 java/lang/Object m|1|f|()I|2a.ac m|9|main|([I)I|04.ac = Op A f()I 1 NeedsKind 0 int A
+A 33 java/lang/Object m|9|main|([I)I|04.ac & B 33 java/lang/Object m|9|f|()I|b1 = Op B f()I 0 ReturnKind
+A 33 java/lang/Object m|9|f|(JJJ)V|b1 m|9|main|([I)I|04.ac = Op A f(JJJ)V 0 LocalRange 4
+";
+
+fn expect<R: AllocGlobal + Abort>(rt: &R, row: &str, word: &str, status: u8) {
     let mut halves = row.split(" = ");
     let classes = halves.next().expect(rt, "classes").split(" & ");
     let fault = halves.next().expect(rt, "a fault");
@@ -69,15 +82,22 @@ fn expect<R: AllocGlobal + Abort>(rt: &R, row: &str) {
         files.push((*path, class.as_slice())).expect(rt, "a file");
     }
     let found = run_over(rt, &["run", "d", "A", "4"], &files, Scene::SOUND);
-    let line = format!(in rt.alloc(); "nrmi: link {fault}\n").expect(rt, "a line");
+    let line = format!(in rt.alloc(); "nrmi: {word} {fault}\n").expect(rt, "a line");
     assert_eq!(rt; found.err.as_slice(), line.as_bytes(), "{row}");
-    assert_eq!(rt; found.status, 5, "{row}");
+    assert_eq!(rt; found.status, status, "{row}");
     assert!(rt; found.out.is_empty(), "{row}");
 }
 
 #[test]
 fn each_fault_of_linking(rt: HostRuntime) {
     for row in FAULTS.lines() {
-        expect(&rt, row);
+        expect(&rt, row, "link", 5);
+    }
+}
+
+#[test]
+fn faults_of_typing(rt: HostRuntime) {
+    for row in TYPING.lines() {
+        expect(&rt, row, "verify", 6);
     }
 }

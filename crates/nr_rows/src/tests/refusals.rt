@@ -1,4 +1,5 @@
-//! Programs that are refused: by linking, by the look-up of `main`, by verifying.
+//! Programs that are refused: by loading, by linking, by the look-up of `main`, by verifying, and for code that
+//! can't run yet.
 use crate::tests::run::{expect, number};
 use crate::tests::scene::{M_CLASS, Scene};
 use std::process::Abort;

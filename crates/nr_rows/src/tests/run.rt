@@ -306,6 +306,11 @@ fn calls_that_fail(rt: HostRuntime) {
         },
         folder,
     );
+}
+
+#[test]
+fn outputs_that_fail(rt: HostRuntime) {
+    let words = ["run", "d", "M", "4"];
     let out = Scene {
         out: &[1],
         ..Scene::SOUND

@@ -93,6 +93,21 @@ fn code<R: AllocGlobal + Abort>(rt: &R, text: &str, entries: &[u16]) -> Option<C
     })
 }
 
+// The index of an entry of the constant pool.
+fn entry<R: AllocGlobal + Abort>(rt: &R, maker: &mut ClassMaker, text: &str) -> u16 {
+    let alloc = rt.alloc();
+    let word = |place| part(text, '|', place);
+    if word(0) == "c" {
+        let index = maker.class_ref(alloc, &name(rt, word(1)));
+        return index.expect(rt, "an entry");
+    }
+    let tag = number(rt, word(1)) as u8;
+    assert!(rt; 9 <= tag && tag <= 11);
+    let (class, member, desc) = (name(rt, word(2)), name(rt, word(3)), name(rt, word(4)));
+    let index = maker.member_ref(alloc, tag, &class, &member, &desc);
+    index.expect(rt, "an entry")
+}
+
 // Adds a part to the class, or an entry to its constant pool.
 fn add<R: AllocGlobal + Abort>(rt: &R, maker: &mut ClassMaker, text: &str, entries: &mut Vec<u16>) {
     let alloc = rt.alloc();
@@ -107,20 +122,9 @@ fn add<R: AllocGlobal + Abort>(rt: &R, maker: &mut ClassMaker, text: &str, entri
             let added = maker.add_field(alloc, flags, &name(rt, word(2)), &name(rt, word(3)), None);
             added.expect(rt, "a field");
         }
-        "c" => {
-            let index = maker.class_ref(alloc, &name(rt, word(1)));
-            entries
-                .push(index.expect(rt, "an entry"))
-                .expect(rt, "an entry");
-        }
-        "r" => {
-            let tag = number(rt, word(1)) as u8;
-            assert!(rt; 9 <= tag && tag <= 11);
-            let (class, member, desc) = (name(rt, word(2)), name(rt, word(3)), name(rt, word(4)));
-            let index = maker.member_ref(alloc, tag, &class, &member, &desc);
-            entries
-                .push(index.expect(rt, "an entry"))
-                .expect(rt, "an entry");
+        "c" | "r" => {
+            let index = entry(rt, maker, text);
+            entries.push(index).expect(rt, "an entry");
         }
         _ => {
             let flags = number(rt, word(1));
