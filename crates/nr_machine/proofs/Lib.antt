@@ -1,0 +1,4 @@
+pub mod Lists
+pub mod Spreads
+pub mod Windows
+pub mod Enters

@@ -1,0 +1,4 @@
+pub mod Executions
+pub mod Turned
+pub mod Resumed
+pub mod CallStacks

@@ -1,0 +1,34 @@
+//! Arguments as the first locals of a frame (JVM Specification 2.6.1).
+
+ghost use Rattle.std.specs.Prelude.{◌≡◌, ◌+◌, ◌++◌, ◌≤◌, drop, length, take};
+ghost use Rattle.nr_model.specs.Steps.{spread};
+
+use nr_model::Value;
+
+/// Puts arguments into the first locals. A long takes two, the second of which isn't used.
+fn place_arguments(args: &[Value], locals: &mut [Value])
+    requires { length (spread args.now) ≤ length locals.old }
+    ensures { locals.new ≡ spread args.now ++ drop (length (spread args.now)) locals.old }
+{
+    let mut at = 0;
+    for arg in args {
+        locals[at] = *arg;
+        at += 1;
+        if let Value::Long(_) = *arg {
+            locals[at] = Value::Null;
+            at += 1;
+        }
+    }
+}
+
+/// Puts the arguments that stand in the values from `first` on into the locals that begin at `from`.
+pub fn pass_arguments(values: &mut [Value], from: usize, first: usize, count: usize)
+    requires before { first + count ≤ from }
+    requires within { from ≤ length values.old }
+    requires fits { from + length (spread (take count (drop first values.old))) ≤ length values.old }
+    ensures { let placed = spread (take count (drop first values.old)) in
+        values.new ≡ take from values.old ++ (placed ++ drop (from + length placed) values.old) }
+{
+    let (below, window) = values.split_at_mut(from);
+    place_arguments(&below[first..first + count], window);
+}
