@@ -1,10 +1,10 @@
 -- A method is entered: what the frames are then.
-use Rattle.std.proofs.Common.{◌≡◌, ℕ, zero, suc, ◌+◌, ◌-◌, ◌<◌, ◌≤◌, List, [], ◌∷◌, ◌++◌, length, take, drop, refl, sym, ap, ap₂, subst, ◌∙◌, Bool, true, false, arith, T, nat_le}
-use Rattle.std.specs.Prelude.{Option, Some, None, reverse, replicate, slice_get, if◌then◌else◌}
+use Rattle.std.proofs.Common.{◌≡◌, ℕ, zero, suc, ◌+◌, ◌-◌, ◌<◌, ◌≤◌, List, [], ◌∷◌, ◌++◌, length, take, drop, refl, sym, ap, ap₂, subst, subst₂, ◌∙◌, Bool, true, false, arith, nat_le, inl, inr}
+use Rattle.std.specs.Prelude.{◌⊎◌, ◌||◌, nat_lt, Option, Some, None, reverse, replicate, slice_get, if◌then◌else◌}
 use Rattle.std.specs.Option.{option_and_then, option_map_or}
 use Rattle.std.proofs.lemmas.List.{take-append-le, length-append, length-drop, length-replicate}
 use Rattle.std.proofs.Math.Seq.{take-append-add}
-use Rattle.std.proofs.lemmas.Bool.{le-leb}
+use Rattle.std.proofs.lemmas.Bool.{le-leb, lt-ltb}
 use Rattle.nr_prog.specs.declared.body.instruction.Instr.{Instr}
 use Rattle.nr_prog.specs.declared.body.whole.Body.{Body}
 use Rattle.nr_prog.specs.Offsets.{StandInOrder}
@@ -14,13 +14,25 @@ use Rattle.nr_linked.specs.Programs.{method_at}
 use Rattle.nr_model.specs.declared.value.Value.{Value}
 use Rattle.nr_model.specs.declared.value.Value.TheVariants.{Null}
 use Rattle.nr_model.specs.CallRules.{operands_of}
+use Rattle.nr_model.specs.Outcomes.{is_too_deep, max_frames, max_value_slots, value_slots}
 use Rattle.nr_model.specs.States.{Frame, Control, Running}
 use Rattle.nr_model.specs.Steps.{spread, first_frame, entered}
 use Rattle.nr_step.specs.Windows.{top_first}
 use Rattle.nr_machine.specs.declared.stack.Frame.{Frame as CodeFrame}
-use Rattle.nr_machine.specs.CallStacks.{code_at, offset_at, locals_of, slots_of, all_slots, frame_of, frames_of}
+use Rattle.nr_machine.specs.CallStacks.{code_at, offset_at, locals_of, slots_of, all_slots, filled, frame_of, frames_of}
 use Rattle.nr_machine.proofs.Lists.{drop_drop, drop_top, take_top, take_same, top_length}
-use Rattle.nr_machine.proofs.Windows.{slots_more, frames_more, window, window_sized, below, frames_are}
+use Rattle.nr_machine.proofs.Windows.{slots_more, frames_more, window, window_sized, below, frames_are, frames_length, frames_slots}
+
+some_same : {X : Type 0} {x y : X} → Some x ≡ Some y → x ≡ y
+some_same e = cc
+
+either : (x y : ℕ) → (max_frames < x) ⊎ (max_value_slots < y) → (nat_lt max_frames x || nat_lt max_value_slots y) ≡ true
+either x y (inl l) = ap (λ b. b || nat_lt max_value_slots y) (lt-ltb max_frames x l)
+either x y (inr l) = by (nat_lt max_frames x)
+  where
+    by : (b : Bool) → (b || nat_lt max_value_slots y) ≡ true
+    by true = refl
+    by false = lt-ltb max_value_slots y l
 
 first_offset_is : (is : List Instr) → StandInOrder is → option_map_or (λ (i : Instr). i.at) (slice_get is 0) 0 ≡ 0
 first_offset_is [] laid = absurd laid
@@ -28,7 +40,7 @@ first_offset_is (i ∷ is) laid = laid.0
 
 -- the values of a frame that begins with these locals
 abbrev pub first_values : MethodInfo → List Value → List Value
-first_values i placed = placed ++ replicate (i.max_locals + i.max_stack - length placed) Null
+first_values i placed = filled (i.max_locals + i.max_stack) placed
 
 -- the frame of a method at its entry, in code
 abbrev pub entry_of : ℕ → CodeFrame
@@ -105,16 +117,35 @@ module _ (P : ProgramTables) (m : ℕ) (i : MethodInfo) (body : Body) (is_m : me
     enough : operands_of i ≤ length caller.operands
     enough = omega (arith, count_is, depth, top_length stack g.depth)
 
-    pub call_is : length (spread (take count (drop first vs))) ≤ i.max_locals
-        → entered P m caller (frames_of P gs (below P g vs)) ≡ Some (Running (frames_of P ((gs ++ waiting_caller ∷ []) ++ entry_of m ∷ []) (vs ++ first_values i (spread (take count (drop first vs))))))
-    call_is l =
-        let sized' : length vs ≡ all_slots P (gs ++ waiting_caller ∷ []) = omega (arith, sized, slots_more P gs g, slots_more P gs waiting_caller) in
-        let fits : length (spread (reverse (take (operands_of i) caller.operands))) ≤ i.max_locals = subst (λ as. length (spread as) ≤ i.max_locals) (sym args_are) l in
-        let new : frame_of P (entry_of m) (first_values i (spread (take count (drop first vs)))) ≡ first_frame i m (take (operands_of i) caller.operands)
-            = ap (λ as. frame_of P (entry_of m) (first_values i (spread as))) (sym args_are) ∙ entry_is (take (operands_of i) caller.operands) fits in
+    -- the frames of the model
+    pub enters : entered P m caller (frames_of P gs (below P g vs))
+        ≡ Some (Running (first_frame i m (take (operands_of i) caller.operands) ∷ record caller { operands = drop (operands_of i) caller.operands } ∷ frames_of P gs (below P g vs)))
+    enters =
         ap (option_and_then (λ (j : MethodInfo). if nat_le (operands_of j) (length caller.operands)
             then Some (Running (first_frame j m (take (operands_of j) caller.operands) ∷ record caller { operands = drop (operands_of j) caller.operands } ∷ frames_of P gs (below P g vs))) else None)) is_m
         ∙ ap (λ b. if b then Some (Running (first_frame i m (take (operands_of i) caller.operands) ∷ record caller { operands = drop (operands_of i) caller.operands } ∷ frames_of P gs (below P g vs))) else None) (le-leb (operands_of i) (length caller.operands) enough)
+
+    pub sized_waiting : length vs ≡ all_slots P (gs ++ waiting_caller ∷ [])
+    sized_waiting = omega (arith, sized, slots_more P gs g, slots_more P gs waiting_caller)
+
+    -- they are those of the code
+    pub call_is : length (spread (take count (drop first vs))) ≤ i.max_locals
+        → entered P m caller (frames_of P gs (below P g vs)) ≡ Some (Running (frames_of P ((gs ++ waiting_caller ∷ []) ++ entry_of m ∷ []) (vs ++ first_values i (spread (take count (drop first vs))))))
+    call_is l =
+        let fits : length (spread (reverse (take (operands_of i) caller.operands))) ≤ i.max_locals = subst (λ us. length (spread us) ≤ i.max_locals) (sym args_are) l in
+        let new : frame_of P (entry_of m) (first_values i (spread (take count (drop first vs)))) ≡ first_frame i m (take (operands_of i) caller.operands)
+            = ap (λ us. frame_of P (entry_of m) (first_values i (spread us))) (sym args_are) ∙ entry_is (take (operands_of i) caller.operands) fits in
+        enters
         ∙ ap₂ (λ f w. Some (Running (f ∷ w ∷ frames_of P gs (below P g vs)))) (sym new) waits
-        ∙ ap (λ fs. Some (Running (frame_of P (entry_of m) (first_values i (spread (take count (drop first vs)))) ∷ fs))) (sym (frames_are P gs waiting_caller vs sized'))
-        ∙ ap (λ fs. Some (Running fs)) (sym (frames_more P (gs ++ waiting_caller ∷ []) (entry_of m) vs (first_values i (spread (take count (drop first vs)))) sized' (first_sized (spread (take count (drop first vs))) l)))
+        ∙ ap (λ fs. Some (Running (frame_of P (entry_of m) (first_values i (spread (take count (drop first vs)))) ∷ fs))) (sym (frames_are P gs waiting_caller vs sized_waiting))
+        ∙ ap (λ fs. Some (Running fs)) (sym (frames_more P (gs ++ waiting_caller ∷ []) (entry_of m) vs (first_values i (spread (take count (drop first vs)))) sized_waiting (first_sized (spread (take count (drop first vs))) l)))
+
+    -- how many frames and value slots they are
+    pub entered_limits : (c : Control) → entered P m caller (frames_of P gs (below P g vs)) ≡ Some c
+        → (max_frames < length gs + 2) ⊎ (max_value_slots < slots_of P m + length vs) → is_too_deep P c ≡ true
+    entered_limits c e over =
+        let fs : List Frame = first_frame i m (take (operands_of i) caller.operands) ∷ record caller { operands = drop (operands_of i) caller.operands } ∷ frames_of P gs (below P g vs) in
+        let is : Running fs ≡ c = some_same (sym enters ∙ e) in
+        let l : length fs ≡ length gs + 2 = omega (arith, frames_length P gs (below P g vs)) in
+        let s : value_slots P fs ≡ slots_of P m + length vs = omega (arith, frames_slots P gs (below P g vs), sized, slots_more P gs g) in
+        subst (λ c. is_too_deep P c ≡ true) is (either (length fs) (value_slots P fs) (subst₂ (λ x y. (max_frames < x) ⊎ (max_value_slots < y)) (sym l) (sym s) over))

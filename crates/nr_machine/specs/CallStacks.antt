@@ -1,6 +1,6 @@
 -- How the frames of the machine in code are seen: each has a window of the values, one behind the other, that of the first
 -- method first.
-use Rattle.std.specs.Prelude.{◌≡◌, ℕ, ◌+◌, ◌<◌, ◌≤◌, List, [], ◌∷◌, Some, All, drop, length, reverse, slice_get, take}
+use Rattle.std.specs.Prelude.{◌≡◌, ℕ, ◌+◌, ◌-◌, ◌<◌, ◌≤◌, List, [], ◌∷◌, ◌++◌, Some, All, drop, length, replicate, reverse, slice_get, take}
 use Rattle.std.specs.Option.{option_map_or}
 use Rattle.nr_prog.specs.declared.body.instruction.Instr.{Instr}
 use Rattle.nr_prog.specs.declared.body.whole.Body.{Body}
@@ -9,6 +9,7 @@ use Rattle.nr_linked.specs.declared.program.tables.ProgramTables.{ProgramTables}
 use Rattle.nr_linked.specs.Programs.{method_at}
 use Rattle.nr_linked.specs.Sites.{Site, site_at}
 use Rattle.nr_model.specs.declared.value.Value.{Value}
+use Rattle.nr_model.specs.declared.value.Value.TheVariants.{Null}
 use Rattle.nr_model.specs.States.{Frame, Control, Running}
 use Rattle.nr_model.specs.CallRules.{operands_of}
 use Rattle.nr_model.specs.Steps.{spread}
@@ -67,6 +68,10 @@ pub record IsStack (P : ProgramTables) (fs : List CodeFrame) (vs : List Value) :
   pub sized : length vs ≡ all_slots P fs
   pub few_frames : length fs ≤ max_frames
   pub few_values : length vs ≤ max_value_slots
+
+-- so many values: these, and null behind them
+abbrev pub filled : ℕ → List Value → List Value
+filled n vs = vs ++ replicate (n - length vs) Null
 
 -- ---- the running frame
 

@@ -1,7 +1,9 @@
 //! Arguments as the first locals of a frame (JVM Specification 2.6.1).
 
 ghost use Rattle.std.specs.Prelude.{◌≡◌, ◌+◌, ◌++◌, ◌≤◌, drop, length, take};
+ghost use Rattle.std.specs.Vec.{vec_capacity};
 ghost use Rattle.nr_model.specs.Steps.{spread};
+ghost use Rattle.nr_machine.specs.CallStacks.{filled};
 
 use nr_model::Value;
 
@@ -31,4 +33,19 @@ pub fn pass_arguments(values: &mut [Value], from: usize, first: usize, count: us
 {
     let (below, window) = values.split_at_mut(from);
     place_arguments(&below[first..first + count], window);
+}
+
+/// Puts a window of so many values at the end, where there is room for it: the arguments that stand in the
+/// values from `first` on as the first locals, and null in all other places.
+pub fn push_window(values: &mut Vec<Value>, slots: usize, first: usize, count: usize)
+    requires arguments { first + count ≤ length values.old.items }
+    requires fits { length (spread (take count (drop first values.old.items))) ≤ slots }
+    requires room { length values.old.items + slots ≤ vec_capacity values.old }
+    ensures items { values.new.items ≡ values.old.items
+        ++ filled slots (spread (take count (drop first values.old.items))) }
+    ensures capacity { vec_capacity values.old ≤ vec_capacity values.new }
+{
+    let end = values.len();
+    let _ = values.resize(end + slots, Value::Null);
+    pass_arguments(values, end, first, count);
 }
