@@ -38,6 +38,9 @@ first_offset_is : (is : List Instr) → StandInOrder is → option_map_or (λ (i
 first_offset_is [] laid = absurd laid
 first_offset_is (i ∷ is) laid = laid.0
 
+pub slots_of_method : (P : ProgramTables) (m : ℕ) (i : MethodInfo) → method_at P m ≡ Some i → slots_of P m ≡ i.max_locals + i.max_stack
+slots_of_method P m i e = ap (λ o. option_map_or (λ (i : MethodInfo). i.max_locals + i.max_stack) o 0) e
+
 -- the values of a frame that begins with these locals
 abbrev pub first_values : MethodInfo → List Value → List Value
 first_values i placed = filled (i.max_locals + i.max_stack) placed

@@ -5,3 +5,4 @@ pub mod Windows
 pub mod Tops
 pub mod Enters
 pub mod Calls
+pub mod Leaves

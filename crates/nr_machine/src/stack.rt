@@ -6,6 +6,7 @@ ghost use Rattle.nr_model.specs.Outcomes.{max_frames, max_value_slots};
 
 mod arguments;
 mod enter;
+mod leave;
 
 use nr_linked::MethodId;
 use nr_model::Value;
