@@ -6,3 +6,5 @@ pub mod Tops
 pub mod Enters
 pub mod Calls
 pub mod Leaves
+pub mod Places
+pub mod Gives

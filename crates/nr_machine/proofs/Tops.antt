@@ -60,3 +60,13 @@ module _ (P : ProgramTables) (fs : List CodeFrame) (vs : List Value) (st : IsSta
 -- a stack without frames has none that runs
 pub some_frame : (P : ProgramTables) (fs : List CodeFrame) (vs : List Value) (Q : Frame → List Frame → Type 0) → fs ≡ [] → OnRunning (frames_of P fs vs) Q → ⊥
 some_frame P fs vs Q e q = subst (λ fs. OnRunning (frames_of P fs vs) Q) e q
+
+-- ---- what is said of the running frame, in other words
+
+pub running_so : (fs : List Frame) (Q R : Frame → List Frame → Type 0) → OnRunning fs Q → ((f : Frame) (below : List Frame) → Q f below → R f below) → OnRunning fs R
+running_so [] Q R q by = q
+running_so (f ∷ fs) Q R q by = by f fs q
+
+pub running_both : {Z : Type 0} (fs : List Frame) (Q R : Frame → List Frame → Type 0) → OnRunning fs Q → OnRunning fs R → ((f : Frame) (below : List Frame) → Q f below → R f below → Z) → Z
+running_both [] Q R q r by = absurd q
+running_both (f ∷ fs) Q R q r by = by f fs q r

@@ -6,6 +6,7 @@ ghost use Rattle.nr_model.specs.Outcomes.{max_frames, max_value_slots};
 
 mod arguments;
 mod enter;
+mod give;
 mod leave;
 
 use nr_linked::MethodId;
@@ -24,9 +25,9 @@ pub struct Frame {
     /// The method that runs.
     pub method: MethodId,
     /// The place of the instruction at which it stands, among those of its code.
-    pub instr: u32,
+    pub instr: usize,
     /// How many of its operands are in use.
-    pub depth: u32,
+    pub depth: usize,
 }
 
 /// The frames, that of the first method first, and their values: for each frame its locals and then its

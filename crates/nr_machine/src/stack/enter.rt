@@ -53,8 +53,8 @@ impl CallStack {
             unreachable!()
         };
         let count = operand_count(info);
-        let kept = caller.depth - count as u32;
-        let first = self.values.len() - usize::from(program.method(caller.method).max_stack) + kept as usize;
+        let kept = caller.depth - count;
+        let first = self.values.len() - usize::from(program.method(caller.method).max_stack) + kept;
         push_window(&mut self.values, slots, first, count);
         let _ = self.frames.push(Frame { depth: kept, ..caller });
         let _ = self.frames.push(Frame {

@@ -37,7 +37,7 @@ impl CallStack {
     {
         let info = program.method(frame.method);
         let operands = self.values.len() - usize::from(info.max_stack);
-        self.values[operands + frame.depth as usize] = operand;
+        self.values[operands + frame.depth] = operand;
         let _ = self.frames.push(Frame {
             depth: frame.depth + 1,
             ..frame

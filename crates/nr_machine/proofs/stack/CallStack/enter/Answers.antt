@@ -12,7 +12,7 @@ use Rattle.nr_machine.specs.CallStacks.{CanEnter, IsStack, OnRunning, filled, fr
 use Rattle.nr_machine.proofs.Tops.{count, on_running, say_running, sized, placed}
 use Rattle.nr_machine.proofs.Enters.{call_is, entry_of}
 use Rattle.nr_machine.proofs.Pushes.{pushed}
-use Rattle.nr_machine.proofs.Calls.{few_operands, is_body, laid, neither, passes, enough, in_range, own_values, room, before, fits, stays_stack}
+use Rattle.nr_machine.proofs.Calls.{is_body, laid, neither, passes, enough, in_range, own_values, room, before, fits, stays_stack}
 use Rattle.nr_machine.proofs.stack.CallStack.enter.Goals as goal
 
 pub operand_count-count-requires : goal.operand_count-count-requires
@@ -29,10 +29,6 @@ overflow_sub-kept c =
     let can = on_running P fs vs c.requires.stack gs g e (λ f fs. CanEnter P c.args.method f) c.requires.can in
     let at = placed P fs vs c.requires.stack gs g e in
     omega (arith, c.operand_count-count.ensures, enough P c.requires.facts fs vs c.requires.stack gs g e c.args.method c.method-info.result.now c.method-info.ensures at.method at.is_method can)
-
-pub overflow_cast-kept : goal.overflow_cast-kept
-overflow_cast-kept c =
-    record { fits = omega (arith, c.operand_count-count.ensures, few_operands c.method-info.result.now, (c.requires.facts.methods c.args.method c.method-info.result.now c.method-info.ensures).few_params) }
 
 pub method-requires : goal.method-requires
 method-requires c =
