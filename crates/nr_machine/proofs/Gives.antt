@@ -42,10 +42,10 @@ module _ (P : ProgramTables) (facts : ProgramFacts P) (fs : List CodeFrame) (vs 
   next = next_some (next_offset P g.method (offset_at P g.method g.instr)) result_of can.0 (subst (λ xs. given P v xs ≡ Some can.0) (running P fs vs st gs g e) can.1)
 
   there : (g.instr + 1 < length at.body.instrs) × (offset_at P g.method (g.instr + 1) ≡ next.0)
-  there = next_place P facts g.method at.method at.body at.is_method at.is_body g.instr at.instr next.0 next.1
+  there = next_place P g.method at.method at.body at.is_method at.is_body facts g.instr at.instr next.0 next.1
 
   pub next_within : g.instr + 1 < length (code_at P g.method)
-  next_within = subst (λ is. g.instr + 1 < length is) (sym (code_is P facts g.method at.method at.body at.is_method at.is_body)) there.0
+  next_within = subst (λ is. g.instr + 1 < length is) (sym (code_is P g.method at.method at.body at.is_method at.is_body)) there.0
 
   pub room : (u : Value) → v ≡ Some u → IsSomeAnd (method_at P g.method) (λ i. g.depth + 1 ≤ i.max_stack)
   room u f =

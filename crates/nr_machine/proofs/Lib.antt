@@ -8,3 +8,5 @@ pub mod Calls
 pub mod Leaves
 pub mod Places
 pub mod Gives
+pub mod Catching
+pub mod Unwinds

@@ -73,14 +73,14 @@ mapped : (o : Option Instr) (t : ℕ) → option_map (λ (x : Instr). x.at) o �
 mapped None t e = absurd (none_some e)
 mapped (Some x) t e = (x, refl, some_eq e)
 
-module _ (P : ProgramTables) (facts : ProgramFacts P) (m : ℕ) (own : MethodInfo) (body : Body) (is_m : method_at P m ≡ Some own) (is_b : own.body ≡ Some body) where
+module _ (P : ProgramTables) (m : ℕ) (own : MethodInfo) (body : Body) (is_m : method_at P m ≡ Some own) (is_b : own.body ≡ Some body) where
   pub code_is : code_at P m ≡ body.instrs
   code_is = ap (λ o. option_map_or (λ (i : MethodInfo). option_map_or (λ (b : Body). b.instrs) i.body []) o []) is_m ∙ ap (λ o. option_map_or (λ (b : Body). b.instrs) o []) is_b
 
   pub offset_is : (i : ℕ) (x : Instr) → slice_get body.instrs i ≡ Some x → offset_at P m i ≡ x.at
   offset_is i x e = ap (λ is. option_map_or (λ (x : Instr). x.at) (slice_get is i) 0) code_is ∙ ap (λ o. option_map_or (λ (x : Instr). x.at) o 0) e
 
-  module _ (i : ℕ) (l : i < length body.instrs) where
+  module _ (facts : ProgramFacts P) (i : ℕ) (l : i < length body.instrs) where
     abbrev pub here : Instr
     here = (entry_at body.instrs i l).0
 

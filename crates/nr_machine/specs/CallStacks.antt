@@ -1,6 +1,6 @@
 -- How the frames of the machine in code are seen: each has a window of the values, one behind the other, that of the first
 -- method first.
-use Rattle.std.specs.Prelude.{◌≡◌, ℕ, ◌+◌, ◌-◌, ◌<◌, ◌≤◌, List, [], ◌∷◌, ◌++◌, Some, All, drop, length, replicate, reverse, slice_get, take}
+use Rattle.std.specs.Prelude.{◌≡◌, ℕ, ◌+◌, ◌-◌, ◌<◌, ◌≤◌, List, [], ◌∷◌, ◌++◌, Some, All, IsSome, IsSomeAnd, drop, length, replicate, reverse, slice_get, take}
 use Rattle.std.specs.Option.{option_map_or}
 use Rattle.nr_prog.specs.declared.body.instruction.Instr.{Instr}
 use Rattle.nr_prog.specs.declared.body.whole.Body.{Body}
@@ -79,6 +79,10 @@ filled n vs = vs ++ replicate (n - length vs) Null
 abbrev pub OnRunning : List Frame → (Frame → List Frame → Type 0) → Type 0
 OnRunning [] Q = ⊥
 OnRunning (f ∷ fs) Q = Q f fs
+
+-- an instruction of the method stands at the offset
+abbrev pub StandsAt : ProgramTables → ℕ → ℕ → Type 0
+StandsAt P m at = IsSomeAnd (method_at P m) (λ i. IsSome (site_at i at))
 
 -- it stands at an instruction, and its method has a place for each of its operands
 pub record CanRun (P : ProgramTables) (f : Frame) : Type 0 where

@@ -7,7 +7,9 @@ ghost use Rattle.nr_model.specs.Outcomes.{max_frames, max_value_slots};
 mod arguments;
 mod enter;
 mod give;
+mod handlers;
 mod leave;
+mod unwind;
 
 use nr_linked::MethodId;
 use nr_model::Value;
