@@ -10,3 +10,4 @@ pub mod Places
 pub mod Gives
 pub mod Catching
 pub mod Unwinds
+pub mod Begins

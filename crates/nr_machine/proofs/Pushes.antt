@@ -62,3 +62,14 @@ module _ (vs : List Value) (slots first count : ℕ) (before : first + count ≤
 
     pub room_grown : length vs + length (spread (take count (drop first grown))) ≤ length grown
     room_grown = fits_grown
+
+-- the first window
+module _ (slots : ℕ) (placed : List Value) (fits : length placed ≤ slots) where
+  pub first_window : (n : ℕ) (passed : List Value) → n ≡ slots → passed ≡ placed ++ drop (length placed) (replicate slots Null)
+      → take n (passed ++ drop (length passed) (replicate slots Null)) ≡ filled slots placed
+  first_window n passed e f =
+      let s : slots ≡ length placed + (slots - length placed) = omega (arith, fits) in
+      let g : passed ≡ filled slots placed = f ∙ ap (λ xs. placed ++ xs) (ap (λ k. drop (length placed) (replicate k Null)) s ∙ drop_same (length placed) (slots - length placed) Null) in
+      let l : length passed ≡ slots = omega (arith, ap length g, length-append placed (replicate (slots - length placed) Null), length-replicate (slots - length placed) Null, fits) in
+      ap (λ xs. take n (passed ++ xs)) (drop_whole (length passed) (replicate slots Null) (omega (arith, l, length-replicate slots Null)))
+      ∙ ap (take n) (append-nil passed) ∙ take_whole n passed (omega (arith, l, e)) ∙ g

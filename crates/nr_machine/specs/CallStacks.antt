@@ -105,3 +105,11 @@ pub record CanEnter (P : ProgramTables) (m : ℕ) (f : Frame) : Type 0 where
   pub is_body : method.body ≡ Some body
   pub enough : operands_of method ≤ length f.operands
   pub fits : length (spread (reverse (take (operands_of method) f.operands))) ≤ method.max_locals
+
+-- the method can begin with these arguments, the first first: it has code, and they fit its locals
+pub record CanBegin (P : ProgramTables) (m : ℕ) (args : List Value) : Type 0 where
+  pub method : MethodInfo
+  pub body : Body
+  pub is_method : method_at P m ≡ Some method
+  pub is_body : method.body ≡ Some body
+  pub fits : length (spread args) ≤ method.max_locals

@@ -3,6 +3,8 @@
 #![tactic(auto)]
 
 mod answer;
+mod machine;
 mod stack;
 
 pub use answer::{ResumeFault, StartFault, Turn};
+pub use machine::Machine;

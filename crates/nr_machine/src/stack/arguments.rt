@@ -1,6 +1,6 @@
 //! Arguments as the first locals of a frame (JVM Specification 2.6.1).
 
-ghost use Rattle.std.specs.Prelude.{◌≡◌, ◌+◌, ◌++◌, ◌≤◌, drop, length, take};
+ghost use Rattle.std.specs.Prelude.{◌≡◌, ◌+◌, ◌++◌, ◌≤◌, [], drop, length, take};
 ghost use Rattle.std.specs.Vec.{vec_capacity};
 ghost use Rattle.nr_model.specs.Steps.{spread};
 ghost use Rattle.nr_machine.specs.CallStacks.{filled};
@@ -48,4 +48,16 @@ pub fn push_window(values: &mut Vec<Value>, slots: usize, first: usize, count: u
     let end = values.len();
     let _ = values.resize(end + slots, Value::Null);
     pass_arguments(values, end, first, count);
+}
+
+/// The same where there are no values yet, with these arguments.
+pub fn push_first_window(values: &mut Vec<Value>, slots: usize, args: &[Value])
+    requires empty { values.old.items ≡ [] }
+    requires fits { length (spread args.now) ≤ slots }
+    requires room { slots ≤ vec_capacity values.old }
+    ensures items { values.new.items ≡ filled slots (spread args.now) }
+    ensures capacity { vec_capacity values.old ≤ vec_capacity values.new }
+{
+    let _ = values.resize(slots, Value::Null);
+    place_arguments(args, values);
 }
