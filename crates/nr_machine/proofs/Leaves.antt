@@ -13,9 +13,10 @@ use Rattle.nr_step.specs.Windows.{top_first}
 use Rattle.nr_step.proofs.Stacks.{top_first_set}
 use Rattle.nr_machine.specs.declared.stack.Frame.{Frame as CodeFrame}
 use Rattle.nr_machine.specs.CallStacks.{all_slots, frame_of, frames_of, locals_of, slots_of, IsPlaced, IsStack, OnRunning}
+use Rattle.nr_machine.proofs.Lists.{drop_top, top_length}
 use Rattle.nr_machine.proofs.Calls.{some_both}
-use Rattle.nr_machine.proofs.Windows.{window, below, below_sized, window_sized, parts, frames_more, slots_more}
-use Rattle.nr_machine.proofs.Tops.{all_more, count, others_placed, placed, say_running, sized}
+use Rattle.nr_machine.proofs.Windows.{window, below, below_sized, window_sized, parts, frames_are, frames_more, slots_more}
+use Rattle.nr_machine.proofs.Tops.{all_more, count, on_running, others_placed, placed, say_running, sized}
 
 -- ---- a value is written into a list
 
@@ -106,3 +107,31 @@ module _ (P : ProgramTables) (fs : List CodeFrame) (vs : List Value) (st : IsSta
         ∙ frames_more P gs more (below P g vs) (set (window P g vs) (locals_of P g.method + g.depth) v) (below_sized P gs g vs (sized P fs vs st gs g e))
             (length-set (window P g vs) (locals_of P g.method + g.depth) v ∙ window_sized P gs g vs (sized P fs vs st gs g e))
         ∙ ap (λ f. f ∷ frames_of P gs (below P g vs)) frame_is)
+
+  -- ---- some of its operands are taken away
+
+  pub few_operands : (n : ℕ) → OnRunning (frames_of P fs vs) (λ f others. n ≤ length f.operands) → n ≤ g.depth
+  few_operands n q = omega (arith, on_running P fs vs st gs g e (λ f others. n ≤ length f.operands) q, top_length (drop (locals_of P g.method) (window P g vs)) g.depth)
+
+  module _ (n kept : ℕ) (depth : g.depth ≡ kept + n) where
+    abbrev pub less : CodeFrame
+    less = record g { depth = kept }
+
+    pub less_stack : IsStack P (gs ++ less ∷ []) vs
+    less_stack =
+        let at = placed P fs vs st gs g e in
+        record {
+          placed = all_more (IsPlaced P) gs less (others_placed P fs vs st gs g e)
+              (record { method = at.method; body = at.body; is_method = at.is_method; is_body = at.is_body; instr = at.instr; depth = omega (arith, at.depth, depth) });
+          sized = omega (arith, sized P fs vs st gs g e, slots_more P gs g, slots_more P gs less);
+          few_frames = omega (arith, st.few_frames, count P fs vs st gs g e, length-append gs (less ∷ []));
+          few_values = st.few_values
+        }
+
+    pub less_frames : OnRunning (frames_of P fs vs) (λ f others. frames_of P (gs ++ less ∷ []) vs ≡ record f { operands = drop n f.operands } ∷ others)
+    less_frames =
+        let stack = drop (locals_of P g.method) (window P g vs) in
+        say_running P fs vs st gs g e (λ f others. frames_of P (gs ++ less ∷ []) vs ≡ record f { operands = drop n f.operands } ∷ others)
+          (frames_are P gs less vs (sized P (gs ++ less ∷ []) vs less_stack gs less refl)
+          ∙ ap (λ os. record (frame_of P g (window P g vs)) { operands = os } ∷ frames_of P gs (below P g vs))
+              (sym (ap (λ d. drop n (top_first stack d)) depth ∙ drop_top stack n kept)))

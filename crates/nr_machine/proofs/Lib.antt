@@ -11,3 +11,4 @@ pub mod Gives
 pub mod Catching
 pub mod Unwinds
 pub mod Begins
+pub mod Turning

@@ -3,8 +3,10 @@
 #![tactic(auto)]
 
 mod answer;
+mod law;
 mod machine;
 mod stack;
 
 pub use answer::{ResumeFault, StartFault, Turn};
+pub use law::turns_tell_outcomes;
 pub use machine::Machine;

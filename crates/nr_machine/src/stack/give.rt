@@ -23,21 +23,20 @@ pub fn code_of(program: &Program, method: MethodId) -> &[Instr]
 }
 
 impl CallStack {
-    /// The running method returns, with its result where it has one: the frame below goes on at its next
-    /// instruction, with the result as an operand. It answers false where there is none below.
-    pub fn give(&mut self, program: &Program, value: Option<Value>) -> bool
+    /// A method returned to the running frame, with its result where it has one: the frame goes on at its next
+    /// instruction, with the result as an operand. It answers false where there is no frame.
+    pub fn go_on(&mut self, program: &Program, value: Option<Value>) -> bool
         requires facts { ProgramFacts program.now }
         requires stack { IsStack program.now self.old.frames.items self.old.values.items }
-        requires can { OnRunning (frames_of program.now self.old.frames.items self.old.values.items)
-            (λ f fs. (c : Control) × (given program.now value fs ≡ Some c) × CanGoOn program.now c) }
+        requires can { (c : Control) × (given program.now value (frames_of program.now self.old.frames.items self.old.values.items) ≡ Some c)
+            × CanGoOn program.now c }
         ensures stack { IsStack program.now self.new.frames.items self.new.values.items }
-        ensures onward { result ≡ true → OnRunning (frames_of program.now self.old.frames.items self.old.values.items)
-            (λ f fs. given program.now value fs
-                ≡ Some (Running (frames_of program.now self.new.frames.items self.new.values.items))) }
-        ensures ended { result ≡ false → OnRunning (frames_of program.now self.old.frames.items self.old.values.items)
-            (λ f fs. given program.now value fs ≡ Some (Returned value)) }
+        ensures onward { result ≡ true → given program.now value (frames_of program.now self.old.frames.items self.old.values.items)
+            ≡ Some (Running (frames_of program.now self.new.frames.items self.new.values.items)) }
+        ensures ended { result ≡ false → given program.now value (frames_of program.now self.old.frames.items self.old.values.items)
+            ≡ Some (Returned value) }
+        ensures some { 0 < length self.old.frames.items → result ≡ true }
     {
-        self.drop_running(program);
         let Some(caller) = self.frames.pop() else {
             return false;
         };
@@ -55,5 +54,23 @@ impl CallStack {
             }
         }
         true
+    }
+
+    /// The running method returns, with its result where it has one, to the frame below. It answers false
+    /// where there is none below.
+    pub fn give(&mut self, program: &Program, value: Option<Value>) -> bool
+        requires facts { ProgramFacts program.now }
+        requires stack { IsStack program.now self.old.frames.items self.old.values.items }
+        requires can { OnRunning (frames_of program.now self.old.frames.items self.old.values.items)
+            (λ f fs. (c : Control) × (given program.now value fs ≡ Some c) × CanGoOn program.now c) }
+        ensures stack { IsStack program.now self.new.frames.items self.new.values.items }
+        ensures onward { result ≡ true → OnRunning (frames_of program.now self.old.frames.items self.old.values.items)
+            (λ f fs. given program.now value fs
+                ≡ Some (Running (frames_of program.now self.new.frames.items self.new.values.items))) }
+        ensures ended { result ≡ false → OnRunning (frames_of program.now self.old.frames.items self.old.values.items)
+            (λ f fs. given program.now value fs ≡ Some (Returned value)) }
+    {
+        self.drop_running(program);
+        self.go_on(program, value)
     }
 }

@@ -1,6 +1,6 @@
 //! Frames that end, and frames that go on (JVM Specification 2.6.4, 2.6.5).
 
-ghost use Rattle.std.specs.Prelude.{◌≡◌, ◌∷◌, ◌++◌, ◌+◌, ◌<◌, ◌≤◌, [], IsSomeAnd, length};
+ghost use Rattle.std.specs.Prelude.{◌≡◌, ◌∷◌, ◌++◌, ◌+◌, ◌<◌, ◌≤◌, [], IsSomeAnd, drop, length};
 ghost use Rattle.nr_linked.specs.Programs.{method_at};
 ghost use Rattle.nr_machine.specs.CallStacks.{IsStack, OnRunning, frames_of};
 
@@ -40,6 +40,26 @@ impl CallStack {
         self.values[operands + frame.depth] = operand;
         let _ = self.frames.push(Frame {
             depth: frame.depth + 1,
+            ..frame
+        });
+    }
+
+    /// Takes so many operands of the running frame away.
+    pub fn drop_operands(&mut self, program: &Program, count: usize)
+        requires stack { IsStack program.now self.old.frames.items self.old.values.items }
+        requires enough { OnRunning (frames_of program.now self.old.frames.items self.old.values.items)
+            (λ f fs. count ≤ length f.operands) }
+        ensures stack { IsStack program.now self.new.frames.items self.new.values.items }
+        ensures frames { OnRunning (frames_of program.now self.old.frames.items self.old.values.items)
+            (λ f fs. frames_of program.now self.new.frames.items self.new.values.items
+                ≡ record f { operands = drop count f.operands } ∷ fs) }
+        ensures as_many { length self.new.frames.items ≡ length self.old.frames.items }
+    {
+        let Some(frame) = self.frames.pop() else {
+            unreachable!()
+        };
+        let _ = self.frames.push(Frame {
+            depth: frame.depth - count,
             ..frame
         });
     }
