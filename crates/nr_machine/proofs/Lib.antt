@@ -12,3 +12,6 @@ pub mod Catching
 pub mod Unwinds
 pub mod Begins
 pub mod Turning
+pub mod Standing
+pub mod TypedLaws
+pub mod Starting

@@ -2,6 +2,7 @@
 
 use nr_linked::MethodId;
 use nr_model::{Ref, Value};
+use std::alloc::AllocError;
 
 /// What a turn answers.
 #[derive(Clone, Copy, Debug, PartialEq, Eq)]
@@ -35,6 +36,17 @@ pub enum StartFault {
     NoMemory,
 }
 
+impl From<AllocError> for StartFault {
+    ghost use Rattle.std.specs.Prelude.{◌≡◌};
+    ghost use Rattle.nr_machine.specs.declared.answer.StartFault.TheVariants.{NoMemory};
+
+    ghost from_gives = { λ _ e. e ≡ NoMemory };
+
+    fn from(_e: AllocError) -> StartFault {
+        StartFault::NoMemory
+    }
+}
+
 /// Why a machine doesn't take an answer.
 #[derive(Clone, Copy, Debug, PartialEq, Eq)]
 pub enum ResumeFault {
@@ -42,4 +54,15 @@ pub enum ResumeFault {
     OutputTooLong,
     /// Memory ran out.
     NoMemory,
+}
+
+impl From<AllocError> for ResumeFault {
+    ghost use Rattle.std.specs.Prelude.{◌≡◌};
+    ghost use Rattle.nr_machine.specs.declared.answer.ResumeFault.TheVariants.{NoMemory};
+
+    ghost from_gives = { λ _ e. e ≡ NoMemory };
+
+    fn from(_e: AllocError) -> ResumeFault {
+        ResumeFault::NoMemory
+    }
 }
