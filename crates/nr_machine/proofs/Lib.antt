@@ -15,3 +15,4 @@ pub mod Turning
 pub mod Standing
 pub mod TypedLaws
 pub mod Starting
+pub mod AskedCalls

@@ -6,6 +6,7 @@ use Rattle.nr_prog.specs.declared.body.instruction.Instr.{Instr}
 use Rattle.nr_prog.specs.declared.body.whole.Body.{Body}
 use Rattle.nr_linked.specs.declared.program.tables.MethodInfo.{MethodInfo}
 use Rattle.nr_linked.specs.declared.program.tables.ProgramTables.{ProgramTables}
+use Rattle.nr_linked.specs.declared.program.tables.Resolved.TheVariants as resolved
 use Rattle.nr_linked.specs.Programs.{method_at}
 use Rattle.nr_linked.specs.Sites.{Site, site_at}
 use Rattle.nr_model.specs.declared.value.Value.{Value}
@@ -113,3 +114,16 @@ pub record CanBegin (P : ProgramTables) (m : ℕ) (args : List Value) : Type 0 w
   pub is_method : method_at P m ≡ Some method
   pub is_body : method.body ≡ Some body
   pub fits : length (spread args) ≤ method.max_locals
+
+-- the instruction at which the frame stands names the method
+pub record IsCallOf (P : ProgramTables) (f : Frame) (m : ℕ) : Type 0 where
+  pub caller : MethodInfo
+  pub site : Site
+  pub named : ℕ
+  pub is_caller : method_at P f.method ≡ Some caller
+  pub is_site : site_at caller f.offset ≡ Some site
+  pub found : site.resolved ≡ resolved.Method m named
+
+-- the last of a list
+abbrev pub IsLast : {X : Type 0} → List X → X → Type 0
+IsLast {X} xs x = (ys : List X) × (xs ≡ ys ++ x ∷ [])

@@ -5,6 +5,7 @@ ghost use Rattle.std.specs.Vec.{vec_capacity};
 ghost use Rattle.nr_model.specs.Outcomes.{max_frames, max_value_slots};
 
 mod arguments;
+mod asked;
 mod begin;
 mod enter;
 mod give;
