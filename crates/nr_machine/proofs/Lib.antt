@@ -16,3 +16,4 @@ pub mod Standing
 pub mod TypedLaws
 pub mod Starting
 pub mod AskedCalls
+pub mod AskingMachines

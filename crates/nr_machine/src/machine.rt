@@ -10,6 +10,8 @@ ghost use Rattle.nr_model.specs.TypedHeaps.{TypedHeap};
 ghost use Rattle.nr_model.specs.Types.{argument_tys};
 ghost use Rattle.nr_machine.specs.Executions.{Stands, Starts};
 
+mod asked;
+
 use super::answer::{StartFault, Turn};
 use super::stack::CallStack;
 use nr_heap::Heap;

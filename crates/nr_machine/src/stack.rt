@@ -13,6 +13,7 @@ mod handlers;
 mod leave;
 mod unwind;
 
+pub use enter::operand_count;
 use nr_linked::MethodId;
 use nr_model::Value;
 use std::alloc::{AllocError, Global};
