@@ -62,7 +62,7 @@ module _ (P : ProgramTables) (fs : List CodeFrame) (vs : List Value) (st : IsSta
     site_same =
         let c : call.caller ≡ at.method = some_both call.is_caller at.is_method in
         ap (λ (s : Site). s.resolved) (some_both (subst (λ (i : MethodInfo). site_at i (offset_at P g.method g.instr) ≡ Some call.site) c call.is_site)
-          (site_is P g.method at.method at.body at.is_method at.is_body facts g.instr at.instr))
+        (site_is P g.method at.method at.body at.is_method at.is_body facts g.instr at.instr))
 
     pub resolved_is : (r : Resolved) → slice_get own.resolved g.instr ≡ Some r → r ≡ resolved.Method m call.named
     resolved_is r q =
@@ -99,11 +99,11 @@ module _ (P : ProgramTables) (fs : List CodeFrame) (vs : List Value) (st : IsSta
       let d : g.depth ≡ g.depth - n + n = omega (arith, l) in
       let k : length vs - slots_of P g.method + locals_of P g.method + (g.depth - n) ≡ length vs - own.max_stack + (g.depth - n) = omega (arith, slots, locals, sized P fs vs st gs g e, slots_more P gs g) in
       say_running P fs vs st gs g e (λ f others. reverse (take n f.operands) ≡ us)
-        (ap (λ d. reverse (take n (top_first stack d))) d
-        ∙ take_top stack n (g.depth - n) (omega (arith, stack_sized, d, room))
-        ∙ ap (λ xs. take n (drop (g.depth - n) xs)) (drop_drop (locals_of P g.method) (length vs - slots_of P g.method) vs)
-        ∙ ap (take n) (drop_drop (g.depth - n) (length vs - slots_of P g.method + locals_of P g.method) vs)
-        ∙ ap (λ k. take n (drop k vs)) k ∙ sym q)
+      (ap (λ d. reverse (take n (top_first stack d))) d
+      ∙ take_top stack n (g.depth - n) (omega (arith, stack_sized, d, room))
+      ∙ ap (λ xs. take n (drop (g.depth - n) xs)) (drop_drop (locals_of P g.method) (length vs - slots_of P g.method) vs)
+      ∙ ap (take n) (drop_drop (g.depth - n) (length vs - slots_of P g.method + locals_of P g.method) vs)
+      ∙ ap (λ k. take n (drop k vs)) k ∙ sym q)
 
 pub same_method : (m c n d : ℕ) → resolved.Method m c ≡ resolved.Method n d → m ≡ n
 same_method m c n d e = cc

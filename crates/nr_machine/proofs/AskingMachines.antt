@@ -44,7 +44,7 @@ module _ (P : ProgramTables) (service : Option ℕ) (fs : List CodeFrame) (vs : 
   pub told : (Q : Frame → List Frame → Type 0) → OnRunning (frames_of P fs vs) Q → Q a.frame a.below
   told Q q = subst (λ xs. OnRunning xs Q) frames_are q
 
-  call : IsCallOf P a.frame a.method
+  pub call : IsCallOf P a.frame a.method
   call = record { caller = a.caller; site = a.site; named = a.named; is_caller = a.calling; is_site = a.standing; found = a.found }
 
   pub some_call : OnRunning (frames_of P fs vs) (λ f others. (m : ℕ) × IsCallOf P f m)
@@ -79,3 +79,34 @@ module _ (P : ProgramTables) (service : Option ℕ) (fs : List CodeFrame) (vs : 
 -- the named method is one of the program
 pub call_there : (P : ProgramTables) (service : Option ℕ) (s : State) (a : Asks P service s) → method_at P a.method ≡ Some a.info
 call_there P service s a = a.called
+
+-- the heap in which it asks is no matter
+pub asks_in : (P : ProgramTables) (service : Option ℕ) (c : Control) (bs : List ℕ) (h k : Heap) → Asks P service (record { heap = h; control = c; printed = bs }) → Asks P service (record { heap = k; control = c; printed = bs })
+asks_in P service c bs h k a = record {
+  frame = a.frame;
+  below = a.below;
+  running = a.running;
+  caller = a.caller;
+  calling = a.calling;
+  site = a.site;
+  standing = a.standing;
+  family = a.family;
+  code = a.code;
+  method = a.method;
+  named = a.named;
+  found = a.found;
+  info = a.info;
+  called = a.called;
+  has_code = a.has_code;
+  remote = a.remote;
+  enough = a.enough;
+}
+
+module _ (P : ProgramTables) (service : Option ℕ) (fs : List CodeFrame) (vs : List Value) (last : Option Turn) (printed : List ℕ) (going : last ≡ None) (h k : Heap)
+    (a : Asks P service (record { heap = h; control = control_of P fs vs last; printed = printed })) (b : Asks P service (record { heap = k; control = control_of P fs vs last; printed = printed })) where
+  -- the same frames wait
+  pub waiting_same : waiting a ≡ waiting b
+  waiting_same = waiting_is P service fs vs last k printed going b a.method
+      (subst (λ xs. OnRunning xs (λ f others. IsCallOf P f a.method)) (sym (frames_are P service fs vs last h printed going a)) (call P service fs vs last h printed going a))
+      a.info a.called (operands_of a.info) refl (waiting a)
+      (subst (λ xs. OnRunning xs (λ f others. waiting a ≡ record f { operands = drop (operands_of a.info) f.operands } ∷ others)) (sym (frames_are P service fs vs last h printed going a)) refl)

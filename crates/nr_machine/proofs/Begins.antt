@@ -39,14 +39,14 @@ module _ (P : ProgramTables) (facts : ProgramFacts P) (m : ℕ) (i : MethodInfo)
         (record { method = i; body = can.body; is_method = is_m; is_body = is_body; instr = some_first can.body.instrs laid; depth = omega arith });
     sized = omega (arith, values_sized);
     few_frames = omega arith;
-    few_values = omega (arith, values_sized, slots_of_method P m i is_m, few)
+    few_values = omega (arith, values_sized, slots_of_method P m i is_m, few);
   }
 
   pub begun_frames : IsSomeAnd (method_at P m) (λ j. frames_of P (entry_of m ∷ []) (first_values i (spread args)) ≡ first_frame j m (reverse args) ∷ [])
   begun_frames =
       let r : reverse (reverse args) ≡ args = reverse-reverse args in
       let e : frame_of P (entry_of m) (first_values i (spread args)) ≡ first_frame i m (reverse args)
-          = ap (λ us. frame_of P (entry_of m) (first_values i (spread us))) (sym r)
-            ∙ entry_is P m i can.body is_m is_body laid (reverse args) (subst (λ us. length (spread us) ≤ i.max_locals) (sym r) fits) in
+      = ap (λ us. frame_of P (entry_of m) (first_values i (spread us))) (sym r)
+      ∙ entry_is P m i can.body is_m is_body laid (reverse args) (subst (λ us. length (spread us) ≤ i.max_locals) (sym r) fits) in
       subst (λ o. IsSomeAnd o (λ j. frames_of P (entry_of m ∷ []) (first_values i (spread args)) ≡ first_frame j m (reverse args) ∷ [])) (sym is_m)
-        (frames_more P [] (entry_of m) [] (first_values i (spread args)) refl values_sized ∙ ap (λ f. f ∷ []) e)
+      (frames_more P [] (entry_of m) [] (first_values i (spread args)) refl values_sized ∙ ap (λ f. f ∷ []) e)

@@ -89,11 +89,11 @@ module _ (P : ProgramTables) (facts : ProgramFacts P) (fs : List CodeFrame) (vs 
         record {
           placed = all_more (IsPlaced P) (gs ++ record g { depth = kept } ∷ []) (entry_of m)
               (all_more (IsPlaced P) gs (record g { depth = kept }) (others_placed P fs vs st gs g e)
-                (record { method = old.method; body = old.body; is_method = old.is_method; is_body = old.is_body; instr = old.instr; depth = omega (arith, old.depth, depth) }))
+              (record { method = old.method; body = old.body; is_method = old.is_method; is_body = old.is_body; instr = old.instr; depth = omega (arith, old.depth, depth) }))
               (record { method = i; body = can.body; is_method = is_m; is_body = is_body; instr = some_first can.body.instrs laid; depth = omega arith });
           sized = omega (arith, length-append vs zs, z, slots_more P (gs ++ record g { depth = kept } ∷ []) (entry_of m), slots_more P gs (record g { depth = kept }), slots_more P gs g, sized P fs vs st gs g e);
           few_frames = omega (arith, few_frames, count P fs vs st gs g e, length-append (gs ++ record g { depth = kept } ∷ []) (entry_of m ∷ []), length-append gs (record g { depth = kept } ∷ []));
-          few_values = omega (arith, few_values, length-append vs zs, z, s)
+          few_values = omega (arith, few_values, length-append vs zs, z, s);
         }
 
 -- ---- the test of the limits
@@ -143,6 +143,6 @@ passes P facts fs vs st m i is_m can over = by fs refl (ended fs)
         let body_is = is_body P facts fs vs st gs g e m i is_m at.method at.is_method one in
         let s : slots_of P m ≡ i.max_locals + i.max_stack = ap (λ o. option_map_or (λ (i : MethodInfo). i.max_locals + i.max_stack) o 0) is_m in
         say_running P fs vs st gs g e (λ f below. (c : Control) → entered P m f below ≡ Some c → is_too_deep P c ≡ true)
-          (λ c en. entered_limits P m i one.body is_m body_is (laid P facts fs vs st gs g e m i is_m at.method at.is_method one) gs g at.method at.is_method vs (sized P fs vs st gs g e)
-            (operands_of i) (g.depth - operands_of i) refl (omega (arith, l)) at.depth c en
-            (over_of (length fs + 1) (length gs + 2) (i.max_locals + i.max_stack + length vs) (slots_of P m + length vs) (omega (arith, count P fs vs st gs g e)) (omega (arith, s)) over))
+        (λ c en. entered_limits P m i one.body is_m body_is (laid P facts fs vs st gs g e m i is_m at.method at.is_method one) gs g at.method at.is_method vs (sized P fs vs st gs g e)
+        (operands_of i) (g.depth - operands_of i) refl (omega (arith, l)) at.depth c en
+        (over_of (length fs + 1) (length gs + 2) (i.max_locals + i.max_stack + length vs) (slots_of P m + length vs) (omega (arith, count P fs vs st gs g e)) (omega (arith, s)) over))

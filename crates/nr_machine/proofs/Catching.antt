@@ -130,9 +130,10 @@ module _ (P : ProgramTables) (m : ℕ) (own : MethodInfo) (body : Body) (is_m : 
   handler_place offset t o h s e =
       let p = place_found t body.instrs own.resolved o e (stands_among t s) in
       let c = code_is P m own body is_m is_b in
-      subst (λ o. MatchOption o (handler_at P m offset kind ≡ None) (λ place. (place < length (code_at P m)) × (handler_at P m offset kind ≡ Some (offset_at P m place)))) (sym p.1)
-        (subst (λ is. p.0 < length is) (sym c) p.2,
-         h ∙ ap (λ t. Some t) (sym (ap (λ is. option_map_or (λ (x : Instr). x.at) (slice_get is p.0) 0) c ∙ p.3)))
+      subst (λ o. MatchOption o (handler_at P m offset kind ≡ None) (λ place. (place < length (code_at P m)) × (handler_at P m offset kind ≡ Some (offset_at P m place)))) (sym p.1) (
+        subst (λ is. p.0 < length is) (sym c) p.2,
+        h ∙ ap (λ t. Some t) (sym (ap (λ is. option_map_or (λ (x : Instr). x.at) (slice_get is p.0) 0) c ∙ p.3)),
+      )
 
 pub placed_within : (P : ProgramTables) (f : CodeFrame) → IsPlaced P f → (own : MethodInfo) (body : Body) → method_at P f.method ≡ Some own → own.body ≡ Some body → f.instr < length body.instrs
 placed_within P f at own body is_m is_b =

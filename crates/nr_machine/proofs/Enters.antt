@@ -77,7 +77,7 @@ module _ (P : ProgramTables) (m : ℕ) (i : MethodInfo) (body : Body) (is_m : me
   pub entry_is : (args : List Value) → length (spread (reverse args)) ≤ i.max_locals → frame_of P (entry_of m) (first_values i (spread (reverse args))) ≡ first_frame i m args
   entry_is args l =
       ap₂ (λ o ls. record { method = m; offset = o; locals = ls; operands = [] }) at_entry
-        (ap (λ n. take n (first_values i (spread (reverse args)))) locals_are ∙ first_locals_are (spread (reverse args)) l)
+      (ap (λ n. take n (first_values i (spread (reverse args)))) locals_are ∙ first_locals_are (spread (reverse args)) l)
 
   -- ---- called by the running frame
 
@@ -125,7 +125,7 @@ module _ (P : ProgramTables) (m : ℕ) (i : MethodInfo) (body : Body) (is_m : me
         ≡ Some (Running (first_frame i m (take (operands_of i) caller.operands) ∷ record caller { operands = drop (operands_of i) caller.operands } ∷ frames_of P gs (below P g vs)))
     enters =
         ap (option_and_then (λ (j : MethodInfo). if nat_le (operands_of j) (length caller.operands)
-            then Some (Running (first_frame j m (take (operands_of j) caller.operands) ∷ record caller { operands = drop (operands_of j) caller.operands } ∷ frames_of P gs (below P g vs))) else None)) is_m
+        then Some (Running (first_frame j m (take (operands_of j) caller.operands) ∷ record caller { operands = drop (operands_of j) caller.operands } ∷ frames_of P gs (below P g vs))) else None)) is_m
         ∙ ap (λ b. if b then Some (Running (first_frame i m (take (operands_of i) caller.operands) ∷ record caller { operands = drop (operands_of i) caller.operands } ∷ frames_of P gs (below P g vs))) else None) (le-leb (operands_of i) (length caller.operands) enough)
 
     pub sized_waiting : length vs ≡ all_slots P (gs ++ waiting_caller ∷ [])
@@ -137,7 +137,7 @@ module _ (P : ProgramTables) (m : ℕ) (i : MethodInfo) (body : Body) (is_m : me
     call_is l =
         let fits : length (spread (reverse (take (operands_of i) caller.operands))) ≤ i.max_locals = subst (λ us. length (spread us) ≤ i.max_locals) (sym args_are) l in
         let new : frame_of P (entry_of m) (first_values i (spread (take count (drop first vs)))) ≡ first_frame i m (take (operands_of i) caller.operands)
-            = ap (λ us. frame_of P (entry_of m) (first_values i (spread us))) (sym args_are) ∙ entry_is (take (operands_of i) caller.operands) fits in
+        = ap (λ us. frame_of P (entry_of m) (first_values i (spread us))) (sym args_are) ∙ entry_is (take (operands_of i) caller.operands) fits in
         enters
         ∙ ap₂ (λ f w. Some (Running (f ∷ w ∷ frames_of P gs (below P g vs)))) (sym new) waits
         ∙ ap (λ fs. Some (Running (frame_of P (entry_of m) (first_values i (spread (take count (drop first vs)))) ∷ fs))) (sym (frames_are P gs waiting_caller vs sized_waiting))

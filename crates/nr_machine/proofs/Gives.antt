@@ -62,7 +62,7 @@ module _ (P : ProgramTables) (facts : ProgramFacts P) (fs : List CodeFrame) (vs 
         (record { method = at.method; body = at.body; is_method = at.is_method; is_body = at.is_body; instr = there.0; depth = at.depth });
     sized = omega (arith, sized P fs vs st gs g e, slots_more P gs g, slots_more P gs (onward g));
     few_frames = omega (arith, st.few_frames, count P fs vs st gs g e, length-append gs (onward g ∷ []));
-    few_values = st.few_values
+    few_values = st.few_values;
   }
 
   onward_sized : length vs ≡ all_slots P (gs ++ onward g ∷ [])
@@ -73,7 +73,7 @@ module _ (P : ProgramTables) (facts : ProgramFacts P) (fs : List CodeFrame) (vs 
       → given P v (frames_of P fs vs) ≡ Some (Running new)
   given_is new q =
       let frame : new ≡ record (frame_of P (onward g) (window P g vs)) { operands = with_result v caller.operands } ∷ frames_of P gs (below P g vs)
-          = subst (λ xs. OnRunning xs (λ f others. new ≡ record f { operands = with_result v f.operands } ∷ others)) (frames_are P gs (onward g) vs onward_sized) q in
+      = subst (λ xs. OnRunning xs (λ f others. new ≡ record f { operands = with_result v f.operands } ∷ others)) (frames_are P gs (onward g) vs onward_sized) q in
       ap (given P v) (running P fs vs st gs g e)
       ∙ ap (option_map result_of) next.1
       ∙ ap (λ t. Some (result_of t)) (sym there.1)

@@ -42,7 +42,7 @@ module _ (P : ProgramTables) (fs : List CodeFrame) (vs : List Value) (st : IsSta
     placed = others_placed P fs vs st gs g e;
     sized = below_sized P gs g vs (sized P fs vs st gs g e);
     few_frames = omega (arith, st.few_frames, count P fs vs st gs g e);
-    few_values = omega (arith, st.few_values, ap length (parts P gs g vs (sized P fs vs st gs g e)), length-append (below P g vs) (window P g vs))
+    few_values = omega (arith, st.few_values, ap length (parts P gs g vs (sized P fs vs st gs g e)), length-append (below P g vs) (window P g vs));
   }
 
   pub dropped : OnRunning (frames_of P fs vs) (λ f others. frames_of P gs (below P g vs) ≡ others)
@@ -87,7 +87,7 @@ module _ (P : ProgramTables) (fs : List CodeFrame) (vs : List Value) (st : IsSta
     frame_is = ap₂ (λ ls os. record (frame_of P g (window P g vs)) { locals = ls; operands = os })
         (set_left (locals_of P g.method) g.depth v (window P g vs))
         (ap (λ xs. top_first xs (g.depth + 1)) (set_right (locals_of P g.method) g.depth v (window P g vs))
-          ∙ top_first_set (drop (locals_of P g.method) (window P g vs)) g.depth v (omega (arith, stack_sized, room)))
+        ∙ top_first_set (drop (locals_of P g.method) (window P g vs)) g.depth v (omega (arith, stack_sized, room)))
 
     pub put_stack : IsStack P (gs ++ more ∷ []) (set vs place v)
     put_stack =
@@ -98,14 +98,14 @@ module _ (P : ProgramTables) (fs : List CodeFrame) (vs : List Value) (st : IsSta
               (record { method = own; body = at.body; is_method = is_own; is_body = subst (λ (i : MethodInfo). i.body ≡ Some at.body) same at.is_body; instr = at.instr; depth = room });
           sized = omega (arith, length-set vs place v, sized P fs vs st gs g e, slots_more P gs g, slots_more P gs more);
           few_frames = omega (arith, st.few_frames, count P fs vs st gs g e, length-append gs (more ∷ []));
-          few_values = omega (arith, st.few_values, length-set vs place v)
+          few_values = omega (arith, st.few_values, length-set vs place v);
         }
 
     pub put : OnRunning (frames_of P fs vs) (λ f others. frames_of P (gs ++ more ∷ []) (set vs place v) ≡ record f { operands = v ∷ f.operands } ∷ others)
     put = say_running P fs vs st gs g e (λ f others. frames_of P (gs ++ more ∷ []) (set vs place v) ≡ record f { operands = v ∷ f.operands } ∷ others)
         (ap (frames_of P (gs ++ more ∷ [])) written
         ∙ frames_more P gs more (below P g vs) (set (window P g vs) (locals_of P g.method + g.depth) v) (below_sized P gs g vs (sized P fs vs st gs g e))
-            (length-set (window P g vs) (locals_of P g.method + g.depth) v ∙ window_sized P gs g vs (sized P fs vs st gs g e))
+        (length-set (window P g vs) (locals_of P g.method + g.depth) v ∙ window_sized P gs g vs (sized P fs vs st gs g e))
         ∙ ap (λ f. f ∷ frames_of P gs (below P g vs)) frame_is)
 
   -- ---- some of its operands are taken away
@@ -125,13 +125,13 @@ module _ (P : ProgramTables) (fs : List CodeFrame) (vs : List Value) (st : IsSta
               (record { method = at.method; body = at.body; is_method = at.is_method; is_body = at.is_body; instr = at.instr; depth = omega (arith, at.depth, depth) });
           sized = omega (arith, sized P fs vs st gs g e, slots_more P gs g, slots_more P gs less);
           few_frames = omega (arith, st.few_frames, count P fs vs st gs g e, length-append gs (less ∷ []));
-          few_values = st.few_values
+          few_values = st.few_values;
         }
 
     pub less_frames : OnRunning (frames_of P fs vs) (λ f others. frames_of P (gs ++ less ∷ []) vs ≡ record f { operands = drop n f.operands } ∷ others)
     less_frames =
         let stack = drop (locals_of P g.method) (window P g vs) in
         say_running P fs vs st gs g e (λ f others. frames_of P (gs ++ less ∷ []) vs ≡ record f { operands = drop n f.operands } ∷ others)
-          (frames_are P gs less vs (sized P (gs ++ less ∷ []) vs less_stack gs less refl)
-          ∙ ap (λ os. record (frame_of P g (window P g vs)) { operands = os } ∷ frames_of P gs (below P g vs))
-              (sym (ap (λ d. drop n (top_first stack d)) depth ∙ drop_top stack n kept)))
+        (frames_are P gs less vs (sized P (gs ++ less ∷ []) vs less_stack gs less refl)
+        ∙ ap (λ os. record (frame_of P g (window P g vs)) { operands = os } ∷ frames_of P gs (below P g vs))
+        (sym (ap (λ d. drop n (top_first stack d)) depth ∙ drop_top stack n kept)))

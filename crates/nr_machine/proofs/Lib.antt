@@ -17,3 +17,4 @@ pub mod TypedLaws
 pub mod Starting
 pub mod AskedCalls
 pub mod AskingMachines
+pub mod Resuming

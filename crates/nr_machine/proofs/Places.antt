@@ -47,8 +47,8 @@ site_in y is (q ∷ rs) zero x r up e f =
     let ex : y ≡ x = some_eq e in
     let er : q ≡ r = some_eq f in
     subst (λ x. site_among (y ∷ is) (q ∷ rs) x.at ≡ Some (site_of x r (offset_of (y ∷ is) 1))) ex
-      (subst (λ r. site_among (y ∷ is) (q ∷ rs) y.at ≡ Some (site_of y r (offset_of (y ∷ is) 1))) er
-        (ap (λ b. cond b (Some (record { instr = y; resolved = q; next = first_offset is })) (site_among is rs y.at)) (same y.at) ∙ ap (λ n. Some (site_of y q n)) (head_next is)))
+    (subst (λ r. site_among (y ∷ is) (q ∷ rs) y.at ≡ Some (site_of y r (offset_of (y ∷ is) 1))) er
+    (ap (λ b. cond b (Some (record { instr = y; resolved = q; next = first_offset is })) (site_among is rs y.at)) (same y.at) ∙ ap (λ n. Some (site_of y q n)) (head_next is)))
 site_in y [] (q ∷ rs) (suc i) x r up e f = absurd (none_some e)
 site_in y (z ∷ is) (q ∷ rs) (suc i) x r up e f =
     ap (λ b. cond b (Some (record { instr = y; resolved = q; next = Some z.at })) (site_among (z ∷ is) rs x.at)) (other y.at x.at (above y.at (z ∷ is) i x up e)) ∙ site_in z is rs i x r up.1 e f

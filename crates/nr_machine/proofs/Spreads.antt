@@ -61,10 +61,11 @@ module _ (args init : List Value) (i at : ℕ) (d : Value) (l : i < length args)
 
   pub one_placed : (v : Value) → spread (get_or args i d ∷ []) ≡ v ∷ [] → (at + 1 ≡ length (spread (take (i + 1) args))) × (set locals at v ≡ spread (take (i + 1) args) ++ drop (at + 1) init)
   one_placed v e =
-      let m : spread (take (i + 1) args) ≡ placed ++ v ∷ [] = spread_more args i d l ∙ ap (λ ws. placed ++ ws) e in
-      (omega (arith, at_is, ap length m, length-append placed (v ∷ [])),
-       ap (λ n. set locals n v) at_is ∙ ap (λ xs. set xs (length placed) v) locals_here ∙ written placed init v (omega (arith, enough (v ∷ []) e))
-       ∙ ap (λ n. (placed ++ v ∷ []) ++ drop (n + 1) init) (sym at_is) ∙ ap (λ xs. xs ++ drop (at + 1) init) (sym m))
+      let m : spread (take (i + 1) args) ≡ placed ++ v ∷ [] = spread_more args i d l ∙ ap (λ ws. placed ++ ws) e in (
+        omega (arith, at_is, ap length m, length-append placed (v ∷ [])),
+        ap (λ n. set locals n v) at_is ∙ ap (λ xs. set xs (length placed) v) locals_here ∙ written placed init v (omega (arith, enough (v ∷ []) e))
+            ∙ ap (λ n. (placed ++ v ∷ []) ++ drop (n + 1) init) (sym at_is) ∙ ap (λ xs. xs ++ drop (at + 1) init) (sym m),
+      )
 
   pub two_within : (v w u : Value) → spread (get_or args i d ∷ []) ≡ v ∷ w ∷ [] → at + 1 < length (set locals at u)
   two_within v w u e = omega (arith, enough (v ∷ w ∷ []) e, at_is, ap length locals_here, length-append placed (drop (length placed) init), length-drop (length placed) init, length-set locals at u)
@@ -74,12 +75,13 @@ module _ (args init : List Value) (i at : ℕ) (d : Value) (l : i < length args)
       let m : spread (take (i + 1) args) ≡ placed ++ v ∷ w ∷ [] = spread_more args i d l ∙ ap (λ ws. placed ++ ws) e in
       let n : at + 1 ≡ length (placed ++ v ∷ []) = omega (arith, at_is, length-append placed (v ∷ [])) in
       let one : set locals at v ≡ (placed ++ v ∷ []) ++ drop (length (placed ++ v ∷ [])) init
-          = ap (λ n. set locals n v) at_is ∙ ap (λ xs. set xs (length placed) v) locals_here ∙ written placed init v (omega (arith, enough (v ∷ w ∷ []) e))
-            ∙ ap (λ n. (placed ++ v ∷ []) ++ drop n init) (sym (length-append placed (v ∷ []))) in
-      (omega (arith, at_is, ap length m, length-append placed (v ∷ w ∷ [])),
-       ap (λ n. set (set locals at v) n w) n ∙ ap (λ xs. set xs (length (placed ++ v ∷ [])) w) one ∙ written (placed ++ v ∷ []) init w (omega (arith, enough (v ∷ w ∷ []) e, length-append placed (v ∷ [])))
-       ∙ ap (λ xs. xs ++ drop (length (placed ++ v ∷ []) + 1) init) (append_assoc placed (v ∷ []) (w ∷ []))
-       ∙ ap (λ n. (placed ++ v ∷ w ∷ []) ++ drop (n + 1) init) (sym n) ∙ ap (λ xs. xs ++ drop (at + 1 + 1) init) (sym m))
+      = ap (λ n. set locals n v) at_is ∙ ap (λ xs. set xs (length placed) v) locals_here ∙ written placed init v (omega (arith, enough (v ∷ w ∷ []) e))
+      ∙ ap (λ n. (placed ++ v ∷ []) ++ drop n init) (sym (length-append placed (v ∷ []))) in (
+        omega (arith, at_is, ap length m, length-append placed (v ∷ w ∷ [])),
+        ap (λ n. set (set locals at v) n w) n ∙ ap (λ xs. set xs (length (placed ++ v ∷ [])) w) one ∙ written (placed ++ v ∷ []) init w (omega (arith, enough (v ∷ w ∷ []) e, length-append placed (v ∷ [])))
+            ∙ ap (λ xs. xs ++ drop (length (placed ++ v ∷ []) + 1) init) (append_assoc placed (v ∷ []) (w ∷ []))
+            ∙ ap (λ n. (placed ++ v ∷ w ∷ []) ++ drop (n + 1) init) (sym n) ∙ ap (λ xs. xs ++ drop (at + 1 + 1) init) (sym m),
+      )
 
 -- the same at other names
 pub kept : (placed init : List Value) (n m : ℕ) (xs ys : List Value) → n ≡ m → xs ≡ ys → (m ≡ length placed) × (ys ≡ placed ++ drop m init) → (n ≡ length placed) × (xs ≡ placed ++ drop n init)

@@ -50,8 +50,11 @@ each_size (t ∷ ts) = omega (arith, some_size t, each_size ts)
 module _ (P : ProgramTables) (frames : ℕ → List TypeFrame) (h : Heap) where
   pub stands_run : (f : Frame) → Stands P frames h f → CanRun P f
   stands_run f st = record {
-    method = st.holds.method; site = st.holds.site; is_method = st.holds.is_method; is_site = st.holds.is_site;
-    depth = omega (arith, as_many P h _ _ st.operands, operands_length st.holds.method st.holds.types.operands, each_size st.holds.types.operands, st.room)
+    method = st.holds.method;
+    site = st.holds.site;
+    is_method = st.holds.is_method;
+    is_site = st.holds.is_site;
+    depth = omega (arith, as_many P h _ _ st.operands, operands_length st.holds.method st.holds.types.operands, each_size st.holds.types.operands, st.room);
   }
 
   pub goes_on : (result : Option Kind) (c : Control) → ControlStands P frames result h c → CanGoOn P c

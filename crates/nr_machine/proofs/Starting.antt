@@ -52,8 +52,11 @@ module _ (P : ProgramTables) (facts : ProgramFacts P) (typed : WellTyped P) (h :
 
   pub can_begin : CanBegin P m args
   can_begin = record {
-    method = method.0; body = body.0; is_method = method.1; is_body = body.1;
-    fits = subst (λ us. length (spread us) ≤ method.0.max_locals) (reverse-reverse args) (arguments_fit P typed.frames h m method.0 (reverse args) method.1 stands.control.0)
+    method = method.0;
+    body = body.0;
+    is_method = method.1;
+    is_body = body.1;
+    fits = subst (λ us. length (spread us) ≤ method.0.max_locals) (reverse-reverse args) (arguments_fit P typed.frames h m method.0 (reverse args) method.1 stands.control.0);
   }
 
   pub starts_stand : (fs : List Frame) → IsSomeAnd (method_at P m) (λ i. fs ≡ first_frame i m (reverse args) ∷ []) → StandsIn P typed.frames (result_of P m) (record { heap = h; control = Running fs; printed = [] })
@@ -61,4 +64,4 @@ module _ (P : ProgramTables) (facts : ProgramFacts P) (typed : WellTyped P) (h :
       let e : fs ≡ first_frame method.0 m (reverse args) ∷ [] = subst (λ o. IsSomeAnd o (λ i. fs ≡ first_frame i m (reverse args) ∷ [])) method.1 begun in
       let r : method.0.result ≡ result_of P m = sym (ap (λ o. option_and_then (λ (i : MethodInfo). i.result) o) method.1) in
       subst (λ k. StandsIn P typed.frames k (record { heap = h; control = Running fs; printed = [] })) r
-        (subst (λ fs. StandsIn P typed.frames method.0.result (record { heap = h; control = Running fs; printed = [] })) (sym e) stands)
+      (subst (λ fs. StandsIn P typed.frames method.0.result (record { heap = h; control = Running fs; printed = [] })) (sym e) stands)

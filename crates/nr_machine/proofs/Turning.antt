@@ -34,7 +34,7 @@ module _ (s : State) (calls : List Entry) (n : ℕ) (x y : Execution) (h k : Hea
       let v : y.service ≡ x.service = ap (λ (z : Execution). z.service) goes.rest in
       let i : y.steps ≡ x.steps + goes.made = ap (λ (z : Execution). z.steps) goes.rest in
       subst (λ j. LimitedRun y.program y.service s calls j (state_in k y)) (sym i)
-        (subst₂ (λ P service. LimitedRun P service s calls (x.steps + goes.made) (state_in k y)) (sym p) (sym v) joined)
+      (subst₂ (λ P service. LimitedRun P service s calls (x.steps + goes.made) (state_in k y)) (sym p) (sym v) joined)
 
 -- why the run stops where the machine stands
 module _ (n made : ℕ) (y : Execution) (k : Heap) (in_budget : y.steps ≤ y.budget) where
@@ -60,8 +60,8 @@ outcome s calls n x y h k answer fate from goes f =
     let v : y.service ≡ x.service = ap (λ (z : Execution). z.service) goes.rest in
     let b : y.budget ≡ x.budget = ap (λ (z : Execution). z.budget) goes.rest in
     subst (λ b. AskOutcome x.program x.service s calls b (counted answer y.steps) fate (state_in k y)) b
-      (subst₂ (λ P service. AskOutcome P service s calls y.budget (counted answer y.steps) fate (state_in k y)) p v
-        (record { made = y.steps; run = going s calls n x y h k answer from goes; stops = stops n goes.made y k goes.in_budget answer fate goes.ends f }))
+    (subst₂ (λ P service. AskOutcome P service s calls y.budget (counted answer y.steps) fate (state_in k y)) p v
+    (record { made = y.steps; run = going s calls n x y h k answer from goes; stops = stops n goes.made y k goes.in_budget answer fate goes.ends f }))
 
 pub answered : (s : State) (calls : List Entry) (x y : Execution) (h k : Heap) (answer : Answer) (a : Asks x.program x.service (state_in h x)) → ComesFrom s calls h x → Resumed h x answer y k
     → ComesFrom s (calls ++ entry_of a answer ∷ []) k y
@@ -70,6 +70,6 @@ answered s calls x y h k answer a from r =
     let v : y.service ≡ x.service = ap (λ (z : Execution). z.service) r.rest in
     let i : y.steps ≡ x.steps + 1 = ap (λ (z : Execution). z.steps) r.rest in
     let j : LimitedRun x.program x.service s (calls ++ entry_of a answer ∷ []) (x.steps + 1) (state_in k y)
-        = limited_join x.program x.service x.steps 1 s (state_in h x) (state_in k y) calls (entry_of a answer ∷ []) from (remote_step (state_in k y) (r.answered a) r.limits there) in
+    = limited_join x.program x.service x.steps 1 s (state_in h x) (state_in k y) calls (entry_of a answer ∷ []) from (remote_step (state_in k y) (r.answered a) r.limits there) in
     subst (λ j. LimitedRun y.program y.service s (calls ++ entry_of a answer ∷ []) j (state_in k y)) (sym i)
-      (subst₂ (λ P service. LimitedRun P service s (calls ++ entry_of a answer ∷ []) (x.steps + 1) (state_in k y)) (sym p) (sym v) j)
+    (subst₂ (λ P service. LimitedRun P service s (calls ++ entry_of a answer ∷ []) (x.steps + 1) (state_in k y)) (sym p) (sym v) j)

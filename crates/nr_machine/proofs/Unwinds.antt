@@ -54,7 +54,7 @@ module _ (P : ProgramTables) (kind : Kind) (v : Value) (fs : List CodeFrame) (vs
         (record { method = at.method; body = at.body; is_method = at.is_method; is_body = at.is_body; instr = subst (λ is. place < length is) (code_is P g.method at.method at.body at.is_method at.is_body) l; depth = omega arith });
     sized = omega (arith, sized P fs vs st gs g e, slots_more P gs g, slots_more P gs (at_handler g place));
     few_frames = omega (arith, st.few_frames, count P fs vs st gs g e, length-append gs (at_handler g place ∷ []));
-    few_values = st.few_values
+    few_values = st.few_values;
   }
 
   pub caught_is : (place : ℕ) → place < length (code_at P g.method) → handler ≡ Some (offset_at P g.method place) → (new : List Frame)
@@ -63,7 +63,7 @@ module _ (P : ProgramTables) (kind : Kind) (v : Value) (fs : List CodeFrame) (vs
   caught_is place l h new q =
       let n : length vs ≡ all_slots P (gs ++ at_handler g place ∷ []) = (handler_stack place l).sized in
       let f : new ≡ record (frame_of P (at_handler g place) (window P g vs)) { operands = v ∷ [] } ∷ frames_of P gs (below P g vs)
-          = subst (λ xs. OnRunning xs (λ f others. new ≡ record f { operands = v ∷ f.operands } ∷ others)) (frames_are P gs (at_handler g place) vs n) q in
+      = subst (λ xs. OnRunning xs (λ f others. new ≡ record f { operands = v ∷ f.operands } ∷ others)) (frames_are P gs (at_handler g place) vs n) q in
       unwound_is ∙ ap (λ o. on_some o (unwound P kind v (frames_of P gs (below P g vs))) caught) h ∙ ap (λ xs. Running xs) (sym f)
 
   pub missed_is : handler ≡ None → OnRunning (frames_of P fs vs) (λ f others. handler_at P f.method f.offset kind ≡ None)

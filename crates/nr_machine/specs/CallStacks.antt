@@ -44,7 +44,8 @@ frame_of P f vs = let n = locals_of P f.method in record {
   method = f.method;
   offset = offset_at P f.method f.instr;
   locals = take n vs;
-  operands = top_first (drop n vs) f.depth }
+  operands = top_first (drop n vs) f.depth;
+}
 
 abbrev pub windows : ProgramTables → List CodeFrame → List Value → List Frame
 windows P [] vs = []

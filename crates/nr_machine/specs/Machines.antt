@@ -27,7 +27,8 @@ execution_of a = record {
   steps = a.steps;
   control = control_of a.program.now a.stack.frames.items a.stack.values.items a.last;
   printed = a.printed.items;
-  last = a.last }
+  last = a.last;
+}
 
 pub record IsMachine (a : Inside) : Type 0 where
   pub stack : IsStack a.program.now a.stack.frames.items a.stack.values.items

@@ -24,7 +24,7 @@ impl CallStack {
         ensures stack { result ≡ true → IsStack program.now self.new.frames.items self.new.values.items }
         ensures begun { result ≡ true → IsSomeAnd (method_at program.now method)
             (λ i. frames_of program.now self.new.frames.items self.new.values.items
-                ≡ first_frame i method (reverse args.now) ∷ []) }
+            ≡ first_frame i method (reverse args.now) ∷ []) }
         ensures too_deep { result ≡ false → IsSomeAnd (method_at program.now method)
             (λ i. is_too_deep program.now (Running (first_frame i method (reverse args.now) ∷ [])) ≡ true) }
     {

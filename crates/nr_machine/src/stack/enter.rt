@@ -38,7 +38,7 @@ impl CallStack {
         ensures stack { IsStack program.now self.new.frames.items self.new.values.items }
         ensures entered { result ≡ true → OnRunning (frames_of program.now self.old.frames.items self.old.values.items)
             (λ f fs. entered program.now method f fs
-                ≡ Some (Running (frames_of program.now self.new.frames.items self.new.values.items))) }
+            ≡ Some (Running (frames_of program.now self.new.frames.items self.new.values.items))) }
         ensures too_deep { result ≡ false → OnRunning (frames_of program.now self.old.frames.items self.old.values.items)
             (λ f fs. (c : Control) → entered program.now method f fs ≡ Some c → is_too_deep program.now c ≡ true) }
         ensures unchanged { result ≡ false → (self.new.frames.items ≡ self.old.frames.items)
@@ -56,7 +56,10 @@ impl CallStack {
         let kept = caller.depth - count;
         let first = self.values.len() - usize::from(program.method(caller.method).max_stack) + kept;
         push_window(&mut self.values, slots, first, count);
-        let _ = self.frames.push(Frame { depth: kept, ..caller });
+        let _ = self.frames.push(Frame {
+            depth: kept,
+            ..caller
+        });
         let _ = self.frames.push(Frame {
             method,
             instr: 0,

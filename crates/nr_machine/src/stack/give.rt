@@ -66,7 +66,7 @@ impl CallStack {
         ensures stack { IsStack program.now self.new.frames.items self.new.values.items }
         ensures onward { result ≡ true → OnRunning (frames_of program.now self.old.frames.items self.old.values.items)
             (λ f fs. given program.now value fs
-                ≡ Some (Running (frames_of program.now self.new.frames.items self.new.values.items))) }
+            ≡ Some (Running (frames_of program.now self.new.frames.items self.new.values.items))) }
         ensures ended { result ≡ false → OnRunning (frames_of program.now self.old.frames.items self.old.values.items)
             (λ f fs. given program.now value fs ≡ Some (Returned value)) }
     {

@@ -27,14 +27,26 @@ fn catches(program: &Program, kind: Kind, caught: Option<Kind>) -> bool
 }
 
 /// Whether a handler handles a throw of an object of the kind at the offset.
-fn handles(program: &Program, offset: u16, kind: Kind, handler: &Handler, caught: Option<Kind>) -> bool
+fn handles(
+    program: &Program,
+    offset: u16,
+    kind: Kind,
+    handler: &Handler,
+    caught: Option<Kind>,
+) -> bool
     ensures { result ≡ (covers handler.now offset && catches program.now kind caught) }
 {
     covers(handler, offset) && catches(program, kind, caught)
 }
 
 /// Where the first handler begins that covers the offset and catches an object of the kind.
-fn first_handler(program: &Program, offset: u16, kind: Kind, handlers: &[Handler], caught: &[Option<Kind>]) -> Option<u16>
+fn first_handler(
+    program: &Program,
+    offset: u16,
+    kind: Kind,
+    handlers: &[Handler],
+    caught: &[Option<Kind>],
+) -> Option<u16>
     ensures { result ≡ first_handler program.now offset kind handlers.now caught.now }
 {
     for i in 0..handlers.len().min(caught.len()) {
@@ -60,7 +72,7 @@ pub fn handler_of(program: &Program, frame: &Frame, kind: Kind) -> Option<usize>
         → StandsAt program.now frame.now.method t }
     ensures { let handler = handler_at program.now frame.now.method (offset_at program.now frame.now.method frame.now.instr) kind in
         MatchOption result (handler ≡ None) (λ place. (place < length (code_at program.now frame.now.method))
-            × (handler ≡ Some (offset_at program.now frame.now.method place))) }
+        × (handler ≡ Some (offset_at program.now frame.now.method place))) }
 {
     let info = program.method(frame.method);
     let Some(body) = &info.body else {

@@ -33,7 +33,7 @@ impl CallStack {
         ensures stack { IsStack program.now self.new.frames.items self.new.values.items }
         ensures frames { OnRunning (frames_of program.now (self.old.frames.items ++ frame ∷ []) self.old.values.items)
             (λ f fs. frames_of program.now self.new.frames.items self.new.values.items
-                ≡ record f { operands = operand ∷ f.operands } ∷ fs) }
+            ≡ record f { operands = operand ∷ f.operands } ∷ fs) }
     {
         let info = program.method(frame.method);
         let operands = self.values.len() - usize::from(info.max_stack);
@@ -52,7 +52,7 @@ impl CallStack {
         ensures stack { IsStack program.now self.new.frames.items self.new.values.items }
         ensures frames { OnRunning (frames_of program.now self.old.frames.items self.old.values.items)
             (λ f fs. frames_of program.now self.new.frames.items self.new.values.items
-                ≡ record f { operands = drop count f.operands } ∷ fs) }
+            ≡ record f { operands = drop count f.operands } ∷ fs) }
         ensures as_many { length self.new.frames.items ≡ length self.old.frames.items }
     {
         let Some(frame) = self.frames.pop() else {

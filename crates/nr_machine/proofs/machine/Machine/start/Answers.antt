@@ -16,22 +16,23 @@ begin-requires-clause-can c =
     let same = c.program-program.ensures.program in
     let facts : ProgramFacts c.args.p.now = subst (λ (q : ProgramTables). ProgramFacts q) same c.tables-facts.ensures.facts in
     subst (λ (q : ProgramTables). CanBegin q c.args.method c.args.args.now) (sym same)
-      (can_begin c.args.p.now facts c.program-program.ensures.typed c.args.heap.now.objects c.requires.heap c.args.method c.args.args.now c.requires.method)
+    (can_begin c.args.p.now facts c.program-program.ensures.typed c.args.heap.now.objects c.requires.heap c.args.method c.args.args.now c.requires.method)
 
 pub returns-clause-stands : goal.returns-clause-stands
 returns-clause-stands c =
     let same = c.program-program.ensures.program in
-    let facts : ProgramFacts c.args.p.now = subst (λ (q : ProgramTables). ProgramFacts q) same c.tables-facts.ensures.facts in
-    (c.program-program.ensures.typed,
-     subst (λ bs. StandsIn c.args.p.now c.program-program.ensures.typed.frames (result_of c.args.p.now c.args.method)
-        (record { heap = c.args.heap.now.objects; control = Running (frames_of c.args.p.now c.begin.new.self.frames.items c.begin.new.self.values.items); printed = bs })) (sym c.new-2.ensures.items)
-      (starts_stand c.args.p.now facts c.program-program.ensures.typed c.args.heap.now.objects c.requires.heap c.args.method c.args.args.now c.requires.method
-        (frames_of c.args.p.now c.begin.new.self.frames.items c.begin.new.self.values.items)
-        (subst (λ (q : ProgramTables). IsSomeAnd (method_at q c.args.method) (λ i. frames_of q c.begin.new.self.frames.items c.begin.new.self.values.items ≡ first_frame i c.args.method (reverse c.args.args.now) ∷ [])) same
-          (c.if-not-begin.ensures.begun refl))))
+    let facts : ProgramFacts c.args.p.now = subst (λ (q : ProgramTables). ProgramFacts q) same c.tables-facts.ensures.facts in (
+      c.program-program.ensures.typed,
+      subst (λ bs. StandsIn c.args.p.now c.program-program.ensures.typed.frames (result_of c.args.p.now c.args.method)
+          (record { heap = c.args.heap.now.objects; control = Running (frames_of c.args.p.now c.begin.new.self.frames.items c.begin.new.self.values.items); printed = bs })) (sym c.new-2.ensures.items)
+          (starts_stand c.args.p.now facts c.program-program.ensures.typed c.args.heap.now.objects c.requires.heap c.args.method c.args.args.now c.requires.method
+          (frames_of c.args.p.now c.begin.new.self.frames.items c.begin.new.self.values.items)
+          (subst (λ (q : ProgramTables). IsSomeAnd (method_at q c.args.method) (λ i. frames_of q c.begin.new.self.frames.items c.begin.new.self.values.items ≡ first_frame i c.args.method (reverse c.args.args.now) ∷ [])) same
+          (c.if-not-begin.ensures.begun refl))),
+    )
 
 pub returns-clause-room : goal.returns-clause-room
 returns-clause-room c =
     let same = c.program-program.ensures.program in
     not_deep c.args.p.now c.begin.new.self.frames.items c.begin.new.self.values.items
-      (subst (λ (q : ProgramTables). IsStack q c.begin.new.self.frames.items c.begin.new.self.values.items) same (c.if-not-begin.ensures.stack refl))
+    (subst (λ (q : ProgramTables). IsStack q c.begin.new.self.frames.items c.begin.new.self.values.items) same (c.if-not-begin.ensures.stack refl))

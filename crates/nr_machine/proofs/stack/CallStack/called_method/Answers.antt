@@ -39,6 +39,6 @@ returns c =
     let r : Resolved = slice_index_or c.as_slice.result.now g.instr resolved.Nothing in
     let is_r : slice_get own.resolved g.instr ≡ Some r = read_default own.resolved g.instr resolved.Nothing within ∙ ap (λ rs. Some (slice_index_or rs g.instr resolved.Nothing)) (sym c.as_slice.ensures) in
     let same : call.0 ≡ c.in-Method.method = same_method call.0 call.1.named c.in-Method.method c.in-Method.field-1
-        (sym (resolved_is P fs vs c.requires.stack gs g e own c.method.ensures c.requires.facts call.0 call.1 r is_r) ∙ c.in-Method.is) in
+    (sym (resolved_is P fs vs c.requires.stack gs g e own c.method.ensures c.requires.facts call.0 call.1 r is_r) ∙ c.in-Method.is) in
     subst (λ m. OnRunning (frames_of P fs vs) (λ f others. IsCallOf P f m)) same
-      (say_running P fs vs c.requires.stack gs g e (λ f others. IsCallOf P f call.0) call.1)
+    (say_running P fs vs c.requires.stack gs g e (λ f others. IsCallOf P f call.0) call.1)

@@ -31,8 +31,8 @@ returns-clause-stack c =
     let n = c.args.count in
     let l : n ≤ g.depth = few_operands P fs vs st gs g e n c.requires.enough in
     let frames_are : c.push.new.self.items ≡ gs ++ record g { depth = g.depth - n } ∷ []
-        = pushed c.push.result gs c.push.new.self.items (record g { depth = g.depth - n })
-            (c.push.ensures.succeeds (omega (arith, st.few_frames, count P fs vs st gs g e, c.pop.ensures.capacity, c.pop.new.self.ok.0, c.args.self.now.frame_room))) c.push.ensures.items in
+    = pushed c.push.result gs c.push.new.self.items (record g { depth = g.depth - n })
+    (c.push.ensures.succeeds (omega (arith, st.few_frames, count P fs vs st gs g e, c.pop.ensures.capacity, c.pop.new.self.ok.0, c.args.self.now.frame_room))) c.push.ensures.items in
     subst (λ xs. IsStack P xs vs) (sym frames_are) (less_stack P fs vs st gs g e n (g.depth - n) (omega (arith, l)))
 
 pub returns-clause-frames : goal.returns-clause-frames
@@ -47,7 +47,7 @@ returns-clause-frames c =
     let n = c.args.count in
     let l : n ≤ g.depth = few_operands P fs vs st gs g e n c.requires.enough in
     let frames_are : c.push.new.self.items ≡ gs ++ record g { depth = g.depth - n } ∷ []
-        = pushed c.push.result gs c.push.new.self.items (record g { depth = g.depth - n })
-            (c.push.ensures.succeeds (omega (arith, st.few_frames, count P fs vs st gs g e, c.pop.ensures.capacity, c.pop.new.self.ok.0, c.args.self.now.frame_room))) c.push.ensures.items in
+    = pushed c.push.result gs c.push.new.self.items (record g { depth = g.depth - n })
+    (c.push.ensures.succeeds (omega (arith, st.few_frames, count P fs vs st gs g e, c.pop.ensures.capacity, c.pop.new.self.ok.0, c.args.self.now.frame_room))) c.push.ensures.items in
     subst (λ xs. OnRunning (frames_of P fs vs) (λ f others. frames_of P xs vs ≡ record f { operands = drop n f.operands } ∷ others)) (sym frames_are)
-      (less_frames P fs vs st gs g e n (g.depth - n) (omega (arith, l)))
+    (less_frames P fs vs st gs g e n (g.depth - n) (omega (arith, l)))

@@ -52,7 +52,7 @@ overflow_sub-first c =
 pub returns-then-is_full-clause-too_deep : goal.returns-then-is_full-clause-too_deep
 returns-then-is_full-clause-too_deep c = λ e.
     passes c.args.program.now c.requires.facts c.args.self.now.frames.items c.args.self.now.values.items c.requires.stack c.args.method c.method-info.result.now c.method-info.ensures c.requires.can
-      (subst (λ n. (max_frames < length c.args.self.now.frames.items + 1) ⊎ (max_value_slots < n + length c.args.self.now.values.items)) (ap₂ ◌+◌ c.from.ensures c.from-2.ensures) (c.if-is_full.ensures.0 refl))
+    (subst (λ n. (max_frames < length c.args.self.now.frames.items + 1) ⊎ (max_value_slots < n + length c.args.self.now.values.items)) (ap₂ ◌+◌ c.from.ensures c.from-2.ensures) (c.if-is_full.ensures.0 refl))
 
 pub push_window-requires-clause-arguments : goal.push_window-requires-clause-arguments
 push_window-requires-clause-arguments c =
@@ -65,9 +65,14 @@ push_window-requires-clause-arguments c =
     let can = on_running P fs vs c.requires.stack gs g e (λ f fs. CanEnter P c.args.method f) c.requires.can in
     let n = c.operand_count-count.result in
     let l = enough P c.requires.facts fs vs c.requires.stack gs g e c.args.method c.method-info.result.now c.method-info.ensures c.method.result.now c.method.ensures can in
-    omega (arith, c.from-3.ensures, c.len.ensures, c.args.self.now.values.ok.0,
+    omega (
+      arith,
+      c.from-3.ensures,
+      c.len.ensures,
+      c.args.self.now.values.ok.0,
       before P c.requires.facts fs vs c.requires.stack gs g e c.args.method c.method-info.result.now c.method-info.ensures c.method.result.now c.method.ensures can n (g.depth - n)
-        (sym c.operand_count-count.ensures) (omega (arith, l, c.operand_count-count.ensures)))
+          (sym c.operand_count-count.ensures) (omega (arith, l, c.operand_count-count.ensures)),
+    )
 
 pub push_window-requires-clause-fits : goal.push_window-requires-clause-fits
 push_window-requires-clause-fits c =
@@ -82,9 +87,9 @@ push_window-requires-clause-fits c =
     let l = enough P c.requires.facts fs vs c.requires.stack gs g e c.args.method c.method-info.result.now c.method-info.ensures c.method.result.now c.method.ensures can in
     let at : c.len.result - c.from-3.result + (g.depth - n) ≡ length vs - c.method.result.now.max_stack + (g.depth - n) = omega (arith, c.from-3.ensures, c.len.ensures, c.args.self.now.values.ok.0) in
     let few : length (spread (take n (drop (c.len.result - c.from-3.result + (g.depth - n)) vs))) ≤ c.method-info.result.now.max_locals
-        = subst (λ k. length (spread (take n (drop k vs))) ≤ c.method-info.result.now.max_locals) (sym at)
-          (fits P c.requires.facts fs vs c.requires.stack gs g e c.args.method c.method-info.result.now c.method-info.ensures c.method.result.now c.method.ensures can n (g.depth - n)
-            (sym c.operand_count-count.ensures) (omega (arith, l, c.operand_count-count.ensures))) in
+    = subst (λ k. length (spread (take n (drop k vs))) ≤ c.method-info.result.now.max_locals) (sym at)
+    (fits P c.requires.facts fs vs c.requires.stack gs g e c.args.method c.method-info.result.now c.method-info.ensures c.method.result.now c.method.ensures can n (g.depth - n)
+    (sym c.operand_count-count.ensures) (omega (arith, l, c.operand_count-count.ensures))) in
     omega (arith, few, c.from.ensures, c.from-2.ensures)
 
 pub returns-clause-stack : goal.returns-clause-stack
@@ -103,18 +108,18 @@ returns-clause-stack c =
     let slots : c.from.result + c.from-2.result ≡ i.max_locals + i.max_stack = ap₂ ◌+◌ c.from.ensures c.from-2.ensures in
     let few = neither max_frames (length fs + 1) max_value_slots (c.from.result + c.from-2.result + length vs) c.if-is_full.ensures.1 in
     let frames_are : c.push-2.new.self.items ≡ (gs ++ record g { depth = g.depth - n } ∷ []) ++ entry_of c.args.method ∷ []
-        = pushed c.push-2.result c.push.new.self.items c.push-2.new.self.items (entry_of c.args.method)
-            (c.push-2.ensures.succeeds (omega (arith, few.0, count P fs vs c.requires.stack gs g e, c.push.ensures.upper_bound, c.push.ensures.capacity, c.pop.ensures.capacity, c.pop.new.self.ok.0, c.args.self.now.frame_room)))
-            c.push-2.ensures.items
-          ∙ ap (λ xs. xs ++ entry_of c.args.method ∷ [])
-            (pushed c.push.result gs c.push.new.self.items (record g { depth = g.depth - n })
-              (c.push.ensures.succeeds (omega (arith, few.0, count P fs vs c.requires.stack gs g e, c.pop.ensures.capacity, c.pop.new.self.ok.0, c.args.self.now.frame_room)))
-              c.push.ensures.items) in
+    = pushed c.push-2.result c.push.new.self.items c.push-2.new.self.items (entry_of c.args.method)
+    (c.push-2.ensures.succeeds (omega (arith, few.0, count P fs vs c.requires.stack gs g e, c.push.ensures.upper_bound, c.push.ensures.capacity, c.pop.ensures.capacity, c.pop.new.self.ok.0, c.args.self.now.frame_room)))
+    c.push-2.ensures.items
+    ∙ ap (λ xs. xs ++ entry_of c.args.method ∷ [])
+    (pushed c.push.result gs c.push.new.self.items (record g { depth = g.depth - n })
+    (c.push.ensures.succeeds (omega (arith, few.0, count P fs vs c.requires.stack gs g e, c.pop.ensures.capacity, c.pop.new.self.ok.0, c.args.self.now.frame_room)))
+    c.push.ensures.items) in
     let values_are : c.push_window.new.values.items ≡ vs ++ filled (i.max_locals + i.max_stack) (spread (take n (drop (length vs - c.method.result.now.max_stack + (g.depth - n)) vs)))
-        = c.push_window.ensures.items ∙ ap₂ (λ k j. vs ++ filled k (spread (take n (drop j vs)))) slots at in
+    = c.push_window.ensures.items ∙ ap₂ (λ k j. vs ++ filled k (spread (take n (drop j vs)))) slots at in
     subst₂ (IsStack P) (sym frames_are) (sym values_are)
-      (stays_stack P c.requires.facts fs vs c.requires.stack gs g e c.args.method i c.method-info.ensures c.method.result.now c.method.ensures can n (g.depth - n)
-        (sym c.operand_count-count.ensures) (omega (arith, l, c.operand_count-count.ensures)) few.0 (omega (arith, few.1, slots)))
+    (stays_stack P c.requires.facts fs vs c.requires.stack gs g e c.args.method i c.method-info.ensures c.method.result.now c.method.ensures can n (g.depth - n)
+    (sym c.operand_count-count.ensures) (omega (arith, l, c.operand_count-count.ensures)) few.0 (omega (arith, few.1, slots)))
 
 pub returns-clause-entered : goal.returns-clause-entered
 returns-clause-entered c = λ _.
@@ -132,18 +137,18 @@ returns-clause-entered c = λ _.
     let slots : c.from.result + c.from-2.result ≡ i.max_locals + i.max_stack = ap₂ ◌+◌ c.from.ensures c.from-2.ensures in
     let few = neither max_frames (length fs + 1) max_value_slots (c.from.result + c.from-2.result + length vs) c.if-is_full.ensures.1 in
     let frames_are : c.push-2.new.self.items ≡ (gs ++ record g { depth = g.depth - n } ∷ []) ++ entry_of c.args.method ∷ []
-        = pushed c.push-2.result c.push.new.self.items c.push-2.new.self.items (entry_of c.args.method)
-            (c.push-2.ensures.succeeds (omega (arith, few.0, count P fs vs c.requires.stack gs g e, c.push.ensures.upper_bound, c.push.ensures.capacity, c.pop.ensures.capacity, c.pop.new.self.ok.0, c.args.self.now.frame_room)))
-            c.push-2.ensures.items
-          ∙ ap (λ xs. xs ++ entry_of c.args.method ∷ [])
-            (pushed c.push.result gs c.push.new.self.items (record g { depth = g.depth - n })
-              (c.push.ensures.succeeds (omega (arith, few.0, count P fs vs c.requires.stack gs g e, c.pop.ensures.capacity, c.pop.new.self.ok.0, c.args.self.now.frame_room)))
-              c.push.ensures.items) in
+    = pushed c.push-2.result c.push.new.self.items c.push-2.new.self.items (entry_of c.args.method)
+    (c.push-2.ensures.succeeds (omega (arith, few.0, count P fs vs c.requires.stack gs g e, c.push.ensures.upper_bound, c.push.ensures.capacity, c.pop.ensures.capacity, c.pop.new.self.ok.0, c.args.self.now.frame_room)))
+    c.push-2.ensures.items
+    ∙ ap (λ xs. xs ++ entry_of c.args.method ∷ [])
+    (pushed c.push.result gs c.push.new.self.items (record g { depth = g.depth - n })
+    (c.push.ensures.succeeds (omega (arith, few.0, count P fs vs c.requires.stack gs g e, c.pop.ensures.capacity, c.pop.new.self.ok.0, c.args.self.now.frame_room)))
+    c.push.ensures.items) in
     let values_are : c.push_window.new.values.items ≡ vs ++ filled (i.max_locals + i.max_stack) (spread (take n (drop (length vs - c.method.result.now.max_stack + (g.depth - n)) vs)))
-        = c.push_window.ensures.items ∙ ap₂ (λ k j. vs ++ filled k (spread (take n (drop j vs)))) slots at in
+    = c.push_window.ensures.items ∙ ap₂ (λ k j. vs ++ filled k (spread (take n (drop j vs)))) slots at in
     let called = call_is P c.args.method i can.body c.method-info.ensures (is_body P c.requires.facts fs vs c.requires.stack gs g e c.args.method i c.method-info.ensures c.method.result.now c.method.ensures can)
-        (laid P c.requires.facts fs vs c.requires.stack gs g e c.args.method i c.method-info.ensures c.method.result.now c.method.ensures can) gs g c.method.result.now c.method.ensures vs (sized P fs vs c.requires.stack gs g e)
-        n (g.depth - n) (sym c.operand_count-count.ensures) (omega (arith, l, c.operand_count-count.ensures)) (room P c.requires.facts fs vs c.requires.stack gs g e c.args.method i c.method-info.ensures c.method.result.now c.method.ensures can)
-        (fits P c.requires.facts fs vs c.requires.stack gs g e c.args.method i c.method-info.ensures c.method.result.now c.method.ensures can n (g.depth - n) (sym c.operand_count-count.ensures) (omega (arith, l, c.operand_count-count.ensures))) in
+    (laid P c.requires.facts fs vs c.requires.stack gs g e c.args.method i c.method-info.ensures c.method.result.now c.method.ensures can) gs g c.method.result.now c.method.ensures vs (sized P fs vs c.requires.stack gs g e)
+    n (g.depth - n) (sym c.operand_count-count.ensures) (omega (arith, l, c.operand_count-count.ensures)) (room P c.requires.facts fs vs c.requires.stack gs g e c.args.method i c.method-info.ensures c.method.result.now c.method.ensures can)
+    (fits P c.requires.facts fs vs c.requires.stack gs g e c.args.method i c.method-info.ensures c.method.result.now c.method.ensures can n (g.depth - n) (sym c.operand_count-count.ensures) (omega (arith, l, c.operand_count-count.ensures))) in
     say_running P fs vs c.requires.stack gs g e (λ f fs. entered P c.args.method f fs ≡ Some (Running (frames_of P c.push-2.new.self.items c.push_window.new.values.items)))
-      (called ∙ ap₂ (λ xs ys. Some (Running (frames_of P xs ys))) (sym frames_are) (sym values_are))
+    (called ∙ ap₂ (λ xs ys. Some (Running (frames_of P xs ys))) (sym frames_are) (sym values_are))

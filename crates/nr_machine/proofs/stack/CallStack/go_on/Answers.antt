@@ -61,7 +61,7 @@ returns-in-Some-value-clause-onward c = λ _.
     let can = c.requires.can in
     let new = frames_of P c.put_back.new.self.frames.items c.put_back.new.self.values.items in
     given_is P c.requires.facts fs vs st gs g e v can new
-      (subst (λ (v : Option Value). OnRunning (frames_of P (gs ++ onward g ∷ []) vs) (λ f others. new ≡ record f { operands = with_result v f.operands } ∷ others)) (sym c.in-Some-value.is) c.put_back.ensures.frames)
+    (subst (λ (v : Option Value). OnRunning (frames_of P (gs ++ onward g ∷ []) vs) (λ f others. new ≡ record f { operands = with_result v f.operands } ∷ others)) (sym c.in-Some-value.is) c.put_back.ensures.frames)
 
 pub returns-in-None-clause-stack : goal.returns-in-None-clause-stack
 returns-in-None-clause-stack c =
@@ -75,8 +75,8 @@ returns-in-None-clause-stack c =
     let v : Option Value = c.args.value in
     let can = c.requires.can in
     let frames_are : c.push.new.self.items ≡ gs ++ onward g ∷ []
-        = pushed c.push.result gs c.push.new.self.items (onward g)
-            (c.push.ensures.succeeds (omega (arith, st.few_frames, count P fs vs st gs g e, c.pop.ensures.capacity, c.pop.new.self.ok.0, c.args.self.now.frame_room))) c.push.ensures.items in
+    = pushed c.push.result gs c.push.new.self.items (onward g)
+    (c.push.ensures.succeeds (omega (arith, st.few_frames, count P fs vs st gs g e, c.pop.ensures.capacity, c.pop.new.self.ok.0, c.args.self.now.frame_room))) c.push.ensures.items in
     subst (λ xs. IsStack P xs vs) (sym frames_are) (onward_stack P c.requires.facts fs vs st gs g e v can)
 
 pub returns-in-None-clause-onward : goal.returns-in-None-clause-onward
@@ -91,10 +91,10 @@ returns-in-None-clause-onward c = λ _.
     let v : Option Value = c.args.value in
     let can = c.requires.can in
     let frames_are : c.push.new.self.items ≡ gs ++ onward g ∷ []
-        = pushed c.push.result gs c.push.new.self.items (onward g)
-            (c.push.ensures.succeeds (omega (arith, st.few_frames, count P fs vs st gs g e, c.pop.ensures.capacity, c.pop.new.self.ok.0, c.args.self.now.frame_room))) c.push.ensures.items in
+    = pushed c.push.result gs c.push.new.self.items (onward g)
+    (c.push.ensures.succeeds (omega (arith, st.few_frames, count P fs vs st gs g e, c.pop.ensures.capacity, c.pop.new.self.ok.0, c.args.self.now.frame_room))) c.push.ensures.items in
     let new = frames_of P c.push.new.self.items vs in
     given_is P c.requires.facts fs vs st gs g e v can new
-      (subst (λ (v : Option Value). OnRunning (frames_of P (gs ++ onward g ∷ []) vs) (λ f others. new ≡ record f { operands = with_result v f.operands } ∷ others)) (sym c.in-None.is)
-        (say_running P (gs ++ onward g ∷ []) vs (onward_stack P c.requires.facts fs vs st gs g e v can) gs (onward g) refl (λ f others. new ≡ f ∷ others)
-          (ap (λ xs. frames_of P xs vs) frames_are ∙ running P (gs ++ onward g ∷ []) vs (onward_stack P c.requires.facts fs vs st gs g e v can) gs (onward g) refl)))
+    (subst (λ (v : Option Value). OnRunning (frames_of P (gs ++ onward g ∷ []) vs) (λ f others. new ≡ record f { operands = with_result v f.operands } ∷ others)) (sym c.in-None.is)
+    (say_running P (gs ++ onward g ∷ []) vs (onward_stack P c.requires.facts fs vs st gs g e v can) gs (onward g) refl (λ f others. new ≡ f ∷ others)
+    (ap (λ xs. frames_of P xs vs) frames_are ∙ running P (gs ++ onward g ∷ []) vs (onward_stack P c.requires.facts fs vs st gs g e v can) gs (onward g) refl)))

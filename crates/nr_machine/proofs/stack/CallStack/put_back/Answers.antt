@@ -39,10 +39,10 @@ returns-clause-stack c =
     let room : g.depth + 1 ≤ own.max_stack = subst (λ o. IsSomeAnd o (λ (i : MethodInfo). g.depth + 1 ≤ i.max_stack)) c.method-info.ensures c.requires.room in
     let at : c.len.result - c.from.result + g.depth ≡ length vs - own.max_stack + g.depth = omega (arith, c.from.ensures, c.len.ensures, c.args.self.now.values.ok.0) in
     let frames_are : c.push.new.self.items ≡ gs ++ record g { depth = g.depth + 1 } ∷ []
-        = pushed c.push.result gs c.push.new.self.items (record g { depth = g.depth + 1 })
-            (c.push.ensures.succeeds (omega (arith, c.requires.stack.few_frames, count P (gs ++ g ∷ []) vs c.requires.stack gs g refl, c.args.self.now.frames.ok.0, c.args.self.now.frame_room))) c.push.ensures.items in
+    = pushed c.push.result gs c.push.new.self.items (record g { depth = g.depth + 1 })
+    (c.push.ensures.succeeds (omega (arith, c.requires.stack.few_frames, count P (gs ++ g ∷ []) vs c.requires.stack gs g refl, c.args.self.now.frames.ok.0, c.args.self.now.frame_room))) c.push.ensures.items in
     subst₂ (IsStack P) (sym frames_are) (ap (λ k. set vs k c.args.operand) (sym at))
-      (put_stack P (gs ++ g ∷ []) vs c.requires.stack gs g refl own c.method-info.ensures room c.args.operand)
+    (put_stack P (gs ++ g ∷ []) vs c.requires.stack gs g refl own c.method-info.ensures room c.args.operand)
 
 pub returns-clause-frames : goal.returns-clause-frames
 returns-clause-frames c =
@@ -54,8 +54,8 @@ returns-clause-frames c =
     let room : g.depth + 1 ≤ own.max_stack = subst (λ o. IsSomeAnd o (λ (i : MethodInfo). g.depth + 1 ≤ i.max_stack)) c.method-info.ensures c.requires.room in
     let at : c.len.result - c.from.result + g.depth ≡ length vs - own.max_stack + g.depth = omega (arith, c.from.ensures, c.len.ensures, c.args.self.now.values.ok.0) in
     let frames_are : c.push.new.self.items ≡ gs ++ record g { depth = g.depth + 1 } ∷ []
-        = pushed c.push.result gs c.push.new.self.items (record g { depth = g.depth + 1 })
-            (c.push.ensures.succeeds (omega (arith, c.requires.stack.few_frames, count P (gs ++ g ∷ []) vs c.requires.stack gs g refl, c.args.self.now.frames.ok.0, c.args.self.now.frame_room))) c.push.ensures.items in
+    = pushed c.push.result gs c.push.new.self.items (record g { depth = g.depth + 1 })
+    (c.push.ensures.succeeds (omega (arith, c.requires.stack.few_frames, count P (gs ++ g ∷ []) vs c.requires.stack gs g refl, c.args.self.now.frames.ok.0, c.args.self.now.frame_room))) c.push.ensures.items in
     subst₂ (λ fs us. OnRunning (frames_of P (gs ++ g ∷ []) vs) (λ f others. frames_of P fs us ≡ record f { operands = c.args.operand ∷ f.operands } ∷ others))
-      (sym frames_are) (ap (λ k. set vs k c.args.operand) (sym at))
-      (put P (gs ++ g ∷ []) vs c.requires.stack gs g refl own c.method-info.ensures room c.args.operand)
+    (sym frames_are) (ap (λ k. set vs k c.args.operand) (sym at))
+    (put P (gs ++ g ∷ []) vs c.requires.stack gs g refl own c.method-info.ensures room c.args.operand)

@@ -68,4 +68,4 @@ returns c =
     let v : length c.as_slice-values.result.now ≡ length vs = ap length c.as_slice-values.ensures.value in
     let at : length c.as_slice-values.result.now - c.from.result + g.depth - n ≡ length vs - own.max_stack + (g.depth - n) = omega (arith, c.from.ensures, v, o, r, l) in
     topmost P fs vs c.requires.stack gs g e own c.method.ensures n l c.part_before.result.now
-      (c.part_before.ensures ∙ ap₂ (λ k us. take n (drop k us)) at c.as_slice-values.ensures.value)
+    (c.part_before.ensures ∙ ap₂ (λ k us. take n (drop k us)) at c.as_slice-values.ensures.value)

@@ -19,10 +19,11 @@ loop-arg-preserved c =
     let args = c.args.args.now in
     let init = c.args.locals.now in
     let v = get_or args i (Int (pos 0)) in
-    elim c.match-arg.branch
-      [ in-Long w ↦ kept (spread (take (i + 1) args)) init _ _ _ _ w.at-is w.locals-is
+    elim c.match-arg.branch [
+      | in-Long w ↦ kept (spread (take (i + 1) args)) init _ _ _ _ w.at-is w.locals-is
           (two_placed args init i c.loop-arg.at (Int (pos 0)) c.loop-arg-test.true c.requires c.loop-arg.locals c.loop-arg.invariant.0 c.loop-arg.invariant.1 v Null
-            (ap (λ v. spread (v ∷ [])) w.in-Long.is ∙ ap (λ v. v ∷ Null ∷ []) (sym w.in-Long.is)))
+          (ap (λ v. spread (v ∷ [])) w.in-Long.is ∙ ap (λ v. v ∷ Null ∷ []) (sym w.in-Long.is)))
       | in_default w ↦ kept (spread (take (i + 1) args)) init _ _ _ _ w.at-is w.locals-is
           (one_placed args init i c.loop-arg.at (Int (pos 0)) c.loop-arg-test.true c.requires c.loop-arg.locals c.loop-arg.invariant.0 c.loop-arg.invariant.1 v
-            (spread_one v w.in_default.not-Long)) ]
+          (spread_one v w.in_default.not-Long))
+    ]

@@ -24,12 +24,12 @@ returns c =
     let code : c.as_slice-code.result.now ≡ body.instrs = c.as_slice-code.ensures in
     let x : Instr = c.index-code-frame.result in
     let is_x : slice_get body.instrs i ≡ Some x
-        = slice_get_read body.instrs _ i x refl (placed_within P c.args.frame.now c.requires.placed own body is_m is_b) (c.index-code-frame.is ∙ ap (λ is. slice_index_or is i x) code) in
+    = slice_get_read body.instrs _ i x refl (placed_within P c.args.frame.now c.requires.placed own body is_m is_b) (c.index-code-frame.is ∙ ap (λ is. slice_index_or is i x) code) in
     let at : offset_at P m i ≡ x.at = offset_is P m own body is_m is_b i x is_x in
     let h : handler_at P m (offset_at P m i) c.args.kind ≡ Some c.in_ok-target.target
-        = ap (λ o. handler_at P m o c.args.kind) at ∙ handlers_are P m own body is_m is_b c.args.kind x.at
-          ∙ ap₂ (first_handler P x.at c.args.kind) (sym c.as_slice.ensures) (sym c.as_slice-2.ensures)
-          ∙ ap (λ (x : Instr). first_handler P x.at c.args.kind c.as_slice.result.now c.as_slice-2.result.now) c.index-code-frame.is
-          ∙ sym c.first_handler.ensures ∙ c.in_ok-target.was in
+    = ap (λ o. handler_at P m o c.args.kind) at ∙ handlers_are P m own body is_m is_b c.args.kind x.at
+    ∙ ap₂ (first_handler P x.at c.args.kind) (sym c.as_slice.ensures) (sym c.as_slice-2.ensures)
+    ∙ ap (λ (x : Instr). first_handler P x.at c.args.kind c.as_slice.result.now c.as_slice-2.result.now) c.index-code-frame.is
+    ∙ sym c.first_handler.ensures ∙ c.in_ok-target.was in
     handler_place P m own body is_m is_b c.args.kind (offset_at P m i) c.in_ok-target.target c.place_of.result h (c.requires.stands c.in_ok-target.target h)
-      (c.place_of.ensures ∙ ap (position (λ (x : Instr). x.at == c.in_ok-target.target)) code)
+    (c.place_of.ensures ∙ ap (position (λ (x : Instr). x.at == c.in_ok-target.target)) code)
