@@ -1,6 +1,10 @@
 pub mod Stacks
 pub mod Asks
 pub mod Rows
+pub mod Families
 pub mod NumberRules
 pub mod Increments
 pub mod ConstantRules
+pub mod Going
+pub mod Tops
+pub mod Divisions

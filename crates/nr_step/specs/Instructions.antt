@@ -1,6 +1,6 @@
 -- One instruction as a rule of the model, by its row, its operands and what linking found for it: where it can begin, and
 -- what it leads to.
-use Rattle.std.specs.Prelude.{◌≡◌, ℕ, ◌≤◌, List, length, Option, Some, Contains}
+use Rattle.std.specs.Prelude.{◌≡◌, ℕ, ◌≤◌, List, length, Option, Contains}
 use Rattle.nr_optable.specs.declared.table.Row.{Row}
 use Rattle.nr_optable.specs.Rows.{all_rows}
 use Rattle.nr_prog.specs.declared.body.instruction.Instr.{Instr}
@@ -8,14 +8,21 @@ use Rattle.nr_linked.specs.declared.program.tables.MethodInfo.{MethodInfo}
 use Rattle.nr_linked.specs.declared.program.tables.ProgramTables.{ProgramTables}
 use Rattle.nr_linked.specs.declared.program.tables.Resolved.{Resolved}
 use Rattle.nr_linked.specs.Sites.{Site}
-use Rattle.nr_model.specs.Scripts.{Ending, GoesTo, Runs, Within}
+use Rattle.nr_model.specs.Scripts.{Ending, Runs, Script, Within}
 use Rattle.nr_model.specs.Rules.{script}
 use Rattle.nr_model.specs.declared.value.Value.{Value}
 use Rattle.nr_model.specs.Heaps.{Heap}
+use Rattle.nr_step.specs.declared.flow.Flow.{Flow}
+use Rattle.nr_step.specs.declared.flow.Told.{Told}
+use Rattle.nr_step.specs.Flows.{Went}
 use Rattle.nr_step.specs.Windows.{window}
 
 abbrev pub site_of : Instr → Resolved → Option ℕ → Site
 site_of i found n = record { instr = i; resolved = found; next = n }
+
+-- what it does, by the offset of the next one
+abbrev pub doing : ProgramTables → MethodInfo → Instr → Resolved → Option ℕ → Script
+doing P own i found n = script P own (site_of i found n)
 
 -- the row is that of the code
 pub record IsRowOf (n : ℕ) (r : Row) : Type 0 where
@@ -30,20 +37,52 @@ pub record CanDo (P : ProgramTables) (own : MethodInfo) (i : Instr) (found : Res
   pub runs : Runs (script P own (site_of i found next)) w ending left
   pub fits : length left.operands ≤ room
 
--- it leads from w to u with this ending, wherever the next instruction stands
-abbrev pub Does : ProgramTables → MethodInfo → Instr → Resolved → Within → Ending → Within → Type 0
-Does P own i found w e u = (n : Option ℕ) → Runs (script P own (site_of i found n)) w e u
-
--- it leads from w to u, and on at the next instruction
-abbrev pub GoesOn : ProgramTables → MethodInfo → Instr → Resolved → Within → Within → Type 0
-GoesOn P own i found w u = (n : ℕ) → Runs (script P own (site_of i found (Some n))) w (GoesTo n) u
-
 -- ---- instructions that touch the operands alone: the program, the heap and the locals are any
 
 abbrev pub CanOperate : Instr → List Value → ℕ → Type 0
 CanOperate i stack d = (P : ProgramTables) × (own : MethodInfo) × (found : Resolved) × (h : Heap) × (ls : List Value)
     × CanDo P own i found (window h ls stack d) (length stack)
 
-abbrev pub Operates : Instr → List Value → ℕ → List Value → ℕ → Type 0
-Operates i old d new e = (P : ProgramTables) (own : MethodInfo) (found : Resolved) (h : Heap) (ls : List Value)
-    → GoesOn P own i found (window h ls old d) (window h ls new e)
+abbrev pub Operates : Flow → Instr → List Value → ℕ → Told → List Value → ℕ → Type 0
+Operates flow i old d told new e = (P : ProgramTables) (own : MethodInfo) (found : Resolved) (h : Heap) (ls : List Value)
+    → Went flow P (doing P own i found) (window h ls old d) told (window h ls new e)
+
+-- ---- the same with what was found: loads of the constant pool
+
+abbrev pub CanLoad : Instr → Resolved → List Value → ℕ → Type 0
+CanLoad i found stack d = (P : ProgramTables) × (own : MethodInfo) × (h : Heap) × (ls : List Value)
+    × CanDo P own i found (window h ls stack d) (length stack)
+
+abbrev pub Loads : Flow → Instr → Resolved → List Value → ℕ → Told → List Value → ℕ → Type 0
+Loads flow i found old d told new e = (P : ProgramTables) (own : MethodInfo) (h : Heap) (ls : List Value)
+    → Went flow P (doing P own i found) (window h ls old d) told (window h ls new e)
+
+-- ---- instructions that touch the locals too
+
+abbrev pub CanMove : Instr → List Value → List Value → ℕ → Type 0
+CanMove i locals stack d = (P : ProgramTables) × (own : MethodInfo) × (found : Resolved) × (h : Heap)
+    × CanDo P own i found (window h locals stack d) (length stack)
+
+abbrev pub Moves : Flow → Instr → List Value → List Value → ℕ → Told → List Value → List Value → ℕ → Type 0
+Moves flow i ls old d told ms new e = (P : ProgramTables) (own : MethodInfo) (found : Resolved) (h : Heap)
+    → Went flow P (doing P own i found) (window h ls old d) told (window h ms new e)
+
+-- ---- instructions that touch the heap, whatever was found
+
+abbrev pub CanReach : ProgramTables → Instr → Heap → List Value → ℕ → Type 0
+CanReach P i h stack d = (own : MethodInfo) × (found : Resolved) × (ls : List Value)
+    × CanDo P own i found (window h ls stack d) (length stack)
+
+abbrev pub Reaches : Flow → ProgramTables → Instr → Heap → List Value → ℕ → Told → Heap → List Value → ℕ → Type 0
+Reaches flow P i h old d told k new e = (own : MethodInfo) (found : Resolved) (ls : List Value)
+    → Went flow P (doing P own i found) (window h ls old d) told (window k ls new e)
+
+-- ---- and those for which linking found something
+
+abbrev pub CanFind : ProgramTables → Instr → Resolved → Heap → List Value → ℕ → Type 0
+CanFind P i found h stack d = (own : MethodInfo) × (ls : List Value)
+    × CanDo P own i found (window h ls stack d) (length stack)
+
+abbrev pub Finds : Flow → ProgramTables → Instr → Resolved → Heap → List Value → ℕ → Told → Heap → List Value → ℕ → Type 0
+Finds flow P i found h old d told k new e = (own : MethodInfo) (ls : List Value)
+    → Went flow P (doing P own i found) (window h ls old d) told (window k ls new e)

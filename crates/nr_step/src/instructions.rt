@@ -1,4 +1,5 @@
 //! The instructions, each with its whole rule: what the model's script at its site does.
 
 pub mod constants;
+pub mod divisions;
 pub mod numbers;

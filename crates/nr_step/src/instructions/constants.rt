@@ -3,7 +3,7 @@
 ghost use Rattle.std.specs.Prelude.{◌≡◌, ◌≤◌, length, IsTrue};
 ghost use Rattle.nr_linked.specs.TypingFacts.{is_shaped};
 ghost use Rattle.nr_step.specs.Instructions.{CanOperate, IsRowOf, Operates};
-ghost use Rattle.nr_step.specs.declared.flow.Flow.TheVariants.{Next};
+ghost use Rattle.nr_step.specs.declared.flow.Told.{Told};
 
 use crate::constants::{null, small_int, small_long};
 use crate::flow::Flow;
@@ -19,8 +19,7 @@ pub fn iconst(i: &Instr, code: u8, stack: &mut [Value], depth: &mut usize) -> Fl
     requires shaped { IsTrue (is_shaped i.now.row.shape i.now.args) }
     requires room { depth.old ≤ length stack.old }
     requires can { CanOperate i.now stack.old depth.old }
-    ensures goes_on { result ≡ Next }
-    ensures next { Operates i.now stack.old depth.old stack.new depth.new }
+    ensures went { (told : Told) → Operates result i.now stack.old depth.old told stack.new depth.new }
     ensures room { depth.new ≤ length stack.new }
     ensures length { length stack.new ≡ length stack.old }
 {
@@ -37,8 +36,7 @@ pub fn lconst(i: &Instr, code: u8, stack: &mut [Value], depth: &mut usize) -> Fl
     requires shaped { IsTrue (is_shaped i.now.row.shape i.now.args) }
     requires room { depth.old ≤ length stack.old }
     requires can { CanOperate i.now stack.old depth.old }
-    ensures goes_on { result ≡ Next }
-    ensures next { Operates i.now stack.old depth.old stack.new depth.new }
+    ensures went { (told : Told) → Operates result i.now stack.old depth.old told stack.new depth.new }
     ensures room { depth.new ≤ length stack.new }
     ensures length { length stack.new ≡ length stack.old }
 {
@@ -52,8 +50,7 @@ pub fn aconst_null(i: &Instr, stack: &mut [Value], depth: &mut usize) -> Flow
     requires row { IsRowOf 1 i.now.row }
     requires room { depth.old ≤ length stack.old }
     requires can { CanOperate i.now stack.old depth.old }
-    ensures goes_on { result ≡ Next }
-    ensures next { Operates i.now stack.old depth.old stack.new depth.new }
+    ensures went { (told : Told) → Operates result i.now stack.old depth.old told stack.new depth.new }
     ensures room { depth.new ≤ length stack.new }
     ensures length { length stack.new ≡ length stack.old }
 {
