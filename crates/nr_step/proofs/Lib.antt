@@ -8,3 +8,5 @@ pub mod ConstantRules
 pub mod Going
 pub mod Tops
 pub mod Divisions
+pub mod Jumps
+pub mod Loads

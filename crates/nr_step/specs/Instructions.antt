@@ -1,8 +1,10 @@
 -- One instruction as a rule of the model, by its row, its operands and what linking found for it: where it can begin, and
 -- what it leads to.
-use Rattle.std.specs.Prelude.{◌≡◌, ℕ, ◌≤◌, List, length, Option, Contains}
+use Rattle.std.specs.Prelude.{◌≡◌, ℕ, ◌≤◌, Bool, ◌||◌, ◌==◌, List, length, Option, Contains}
 use Rattle.nr_optable.specs.declared.table.Row.{Row}
 use Rattle.nr_optable.specs.Rows.{all_rows}
+use Rattle.nr_prog.specs.declared.body.instruction.Args.{Args}
+use Rattle.nr_prog.specs.declared.body.instruction.Args.TheVariants as args
 use Rattle.nr_prog.specs.declared.body.instruction.Instr.{Instr}
 use Rattle.nr_linked.specs.declared.program.tables.MethodInfo.{MethodInfo}
 use Rattle.nr_linked.specs.declared.program.tables.ProgramTables.{ProgramTables}
@@ -28,6 +30,26 @@ doing P own i found n = script P own (site_of i found n)
 pub record IsRowOf (n : ℕ) (r : Row) : Type 0 where
   pub listed : Contains all_rows r
   pub code : r.code ≡ n
+
+-- the operands are those of a branch
+abbrev pub IsBranch : Args → Type 0
+IsBranch a = (target : ℕ) × (a ≡ args.Branch target)
+
+-- goto, goto_w
+abbrev pub is_goto : ℕ → Bool
+is_goto code = code == 167 || code == 200
+
+-- iload, lload, aload
+abbrev pub is_load : ℕ → Bool
+is_load code = code == 21 || (code == 22 || code == 25)
+
+-- istore, lstore, astore
+abbrev pub is_store : ℕ → Bool
+is_store code = code == 54 || (code == 55 || code == 58)
+
+-- tableswitch, lookupswitch
+abbrev pub is_switch : ℕ → Bool
+is_switch code = code == 170 || code == 171
 
 -- the instruction has a run from w, which leaves no more operands than there is room for
 pub record CanDo (P : ProgramTables) (own : MethodInfo) (i : Instr) (found : Resolved) (w : Within) (room : ℕ) : Type 0 where

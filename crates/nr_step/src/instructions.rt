@@ -2,4 +2,6 @@
 
 pub mod constants;
 pub mod divisions;
+pub mod jumps;
+pub mod locals;
 pub mod numbers;

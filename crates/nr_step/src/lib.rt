@@ -4,6 +4,7 @@
 mod arithmetic;
 mod branches;
 mod constants;
+mod dispatch;
 mod flow;
 mod instructions;
 mod moves;
