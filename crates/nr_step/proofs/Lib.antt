@@ -10,3 +10,6 @@ pub mod Tops
 pub mod Divisions
 pub mod Jumps
 pub mod Loads
+pub mod Objects
+pub mod Making
+pub mod Casts

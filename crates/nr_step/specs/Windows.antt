@@ -1,5 +1,5 @@
 -- How the values of a frame are seen: the locals, and of the operands those in use, the topmost first.
-use Rattle.std.specs.Prelude.{ℕ, zero, suc, List, [], ◌∷◌, Option, Some, None, slice_index_or}
+use Rattle.std.specs.Prelude.{ℕ, zero, suc, List, [], ◌∷◌, Option, Some, None, IsSomeAnd, slice_get, slice_index_or}
 use Rattle.nr_model.specs.declared.value.Value.{Value}
 use Rattle.nr_model.specs.declared.value.Value.TheVariants.{Null, Ref}
 use Rattle.nr_model.specs.Heaps.{Heap}
@@ -25,6 +25,9 @@ LongOnTop vs = OnTop vs (λ v us. OnLong v (λ n. Unit {0}))
 
 abbrev pub ReferenceOnTop : List Value → Type 0
 ReferenceOnTop vs = OnTop vs (λ v us. OnReference v (λ r. Unit {0}))
+
+abbrev pub ReferenceAt : List Value → ℕ → Type 0
+ReferenceAt vs at = IsSomeAnd (slice_get vs at) (λ v. OnReference v (λ r. Unit {0}))
 
 -- null, or the reference to the object of this name
 abbrev pub reference_to : Option ℕ → Value

@@ -36,7 +36,7 @@ pub fn step(p: &Program, own: &MethodInfo, i: &Instr, found: &Resolved, heap: &m
         132 => iinc(i, locals, stack, *depth),
         148 => lcmp(i, stack, depth),
         153 => if_zero(i, 153, stack, depth, told),
-        167 => goto(i, 167, told),
+        167 => goto(i, 167, stack, *depth, told),
         _ => Flow::NoMemory,
     }
 }

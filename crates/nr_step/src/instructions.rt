@@ -5,3 +5,4 @@ pub mod divisions;
 pub mod jumps;
 pub mod locals;
 pub mod numbers;
+pub mod objects;

@@ -1,9 +1,8 @@
 //! Branches and switches, with their whole rules.
 
-ghost use Rattle.std.specs.Prelude.{◌≡◌, ◌≤◌, ℕ, List, length, IsSome, IsTrue, if◌then◌else◌};
+ghost use Rattle.std.specs.Prelude.{◌≡◌, ◌≤◌, length, IsSome, IsTrue, if◌then◌else◌};
 ghost use Rattle.nr_optable.specs.Operations.{pair_condition, zero_condition};
 ghost use Rattle.nr_prog.specs.declared.body.instruction.Args.TheVariants as args;
-ghost use Rattle.nr_model.specs.declared.value.Value.{Value};
 ghost use Rattle.nr_step.specs.Instructions.{CanOperate, IsBranch, IsRowOf, Operates, is_goto};
 
 use crate::branches::{branches_on_int, branches_on_ints};
@@ -118,15 +117,16 @@ pub fn ifnonnull(i: &Instr, stack: &[Value], depth: &mut usize, told: &mut Told)
     branch_if(!null, i, told)
 }
 
-/// goto, goto_w. They touch no operand.
+/// goto, goto_w.
 #[inline(always)]
-pub fn goto(i: &Instr, code: u8, told: &mut Told) -> Flow
+pub fn goto(i: &Instr, code: u8, stack: &[Value], depth: usize, told: &mut Told) -> Flow
     requires row { IsRowOf code i.now.row }
     requires code { IsTrue (is_goto code) }
-    requires can { (stack : List Value) × (depth : ℕ) × CanOperate i.now stack depth }
-    ensures { (stack : List Value) (depth : ℕ) → Operates result i.now stack depth told.new stack depth }
+    requires can { CanOperate i.now stack.now depth }
+    ensures { Operates result i.now stack.now depth told.new stack.now depth }
 {
     let _ = code;
+    let _ = stack.len();
     told.number = u32::from(target(i));
     Flow::Branch
 }
