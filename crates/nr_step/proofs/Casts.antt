@@ -1,5 +1,5 @@
 -- checkcast, instanceof and athrow.
-use Rattle.std.proofs.Common.{◌≡◌, ℕ, List, ◌∷◌, Option, Some, None, IsSomeAnd, refl, sym, subst, ap, ◌∙◌, Bool, true, false, ◌==◌, ◌||◌, cond, slice_get}
+use Rattle.std.proofs.Common.{◌≡◌, ℕ, List, ◌∷◌, Option, Some, None, IsSomeAnd, refl, sym, subst, ap, ◌∙◌, Bool, true, false, ◌==◌, ◌||◌, cond, slice_get, pos, arith}
 use Rattle.std.specs.FinMap.{get}
 use Rattle.nr_optable.specs.declared.table.Family.TheVariants.{F36, F37}
 use Rattle.nr_optable.specs.Rows.{all_rows}
@@ -14,9 +14,9 @@ use Rattle.nr_linked.specs.BuiltIns.{built_in}
 use Rattle.nr_linked.specs.Kinds.{class_kind}
 use Rattle.nr_linked.specs.Subtypes.{is_sub}
 use Rattle.nr_model.specs.declared.value.Value.{Value}
-use Rattle.nr_model.specs.declared.value.Value.TheVariants.{Null, Ref}
+use Rattle.nr_model.specs.declared.value.Value.TheVariants.{Int, Null, Ref}
 use Rattle.nr_model.specs.Heaps.{Heap, Obj}
-use Rattle.nr_model.specs.ObjectRules.{check_cast, instance_of, throw_top}
+use Rattle.nr_model.specs.ObjectRules.{answer, check_cast, instance_of, throw_top}
 use Rattle.nr_model.specs.Rules.{on_kind}
 use Rattle.nr_model.specs.Scripts.{AskKind, Ending, Runs, Script, Threw, Throw, Within}
 use Rattle.nr_model.specs.Throws.{not_null, onward, throw_new, which}
@@ -54,7 +54,7 @@ instance_rule P own i found to r f = λ n. instance_is P own i found r n ∙ ap 
 
 -- a test of the object's kind, where there is one
 abbrev pub asks_kind : (Kind → Bool) → Script → Script → Bool → Script
-asks_kind test yes no null = cond null yes (AskKind 0 (λ kind n. cond (test kind) yes no))
+asks_kind test fits other null = cond null fits (AskKind 0 (λ kind n. cond (test kind) fits other))
 
 pub cast_asks : (P : ProgramTables) (to : Kind) (h : Heap) (ls vs : List Value) → CanBegin (check_cast P to) (view h ls vs) → ReferenceAt vs 0
 cast_asks P to h ls vs (k, e, u, r) = asks_null 0 (asks_kind (λ kind. is_sub P kind to) k (throw_new P ClassCastException)) h ls vs e u r
@@ -126,8 +126,49 @@ pub top_thrown : (P : ProgramTables) (S : Doing) (a : ℕ) (h : Heap) (ls ms vs 
 top_thrown P S a h ls ms vs k e u top same r = λ n.
     let f = first_is vs (Some a) top in
     let t = some_map (get h a) (λ o. Runs (which (throwable P o.kind) Throw) (view h ms (Ref a ∷ f.0)) e u) (λ o. throwable P o.kind ≡ true) (run_off (not_null P 0 (throws_top P)) h ms vs (Ref a ∷ f.0) e u f.1 r)
-      (λ o r. (passed (throwable P o.kind) Throw (view h ms (Ref a ∷ f.0)) u e r).0) in
-    (view h ls f.0, subst (λ sc. Runs sc (view h ls vs) (Threw a) (view h ls f.0)) (sym (same n))
-    (run_on (not_null P 0 (throws_top P)) h ls vs (Ref a ∷ f.0) (Threw a) (view h ls f.0) f.1
-    (some_map (get h a) (λ o. throwable P o.kind ≡ true) (λ o. Runs (which (throwable P o.kind) Throw) (view h ls (Ref a ∷ f.0)) (Threw a) (view h ls f.0)) t
-    (λ o q. pass (throwable P o.kind) Throw (view h ls (Ref a ∷ f.0)) (view h ls f.0) (Threw a) q (refl, refl)))), refl, refl)
+    (λ o r. (passed (throwable P o.kind) Throw (view h ms (Ref a ∷ f.0)) u e r).0) in (
+      view h ls f.0,
+      subst (λ sc. Runs sc (view h ls vs) (Threw a) (view h ls f.0)) (sym (same n))
+          (run_on (not_null P 0 (throws_top P)) h ls vs (Ref a ∷ f.0) (Threw a) (view h ls f.0) f.1
+          (some_map (get h a) (λ o. throwable P o.kind ≡ true) (λ o. Runs (which (throwable P o.kind) Throw) (view h ls (Ref a ∷ f.0)) (Threw a) (view h ls f.0)) t
+          (λ o q. pass (throwable P o.kind) Throw (view h ls (Ref a ∷ f.0)) (view h ls f.0) (Threw a) q (refl, refl)))),
+      refl,
+      refl,
+    )
+
+-- ---- instanceof
+
+pub instance_asks : (P : ProgramTables) (to : Kind) (h : Heap) (ls vs : List Value) → CanBegin (instance_of P to) (view h ls vs) → ReferenceAt vs 0
+instance_asks P to h ls vs (k, e, u, r) = asks_null 0 (λ null. cond null (answer 0 k) (AskKind 0 (λ kind n. cond (is_sub P kind to) (answer 1 k) (answer 0 k)))) h ls vs e u r
+
+pub instance_there : (P : ProgramTables) (to : Kind) (a : ℕ) (h : Heap) (ls vs : List Value) → slice_get vs 0 ≡ Some (reference_to (Some a)) → CanBegin (instance_of P to) (view h ls vs) → IsSomeAnd (get h a) (λ o. Unit {0})
+instance_there P to a h ls vs top (k, e, u, r) =
+    let f = first_is vs (Some a) top in
+    some_map (get h a) (λ o. Runs (cond (is_sub P o.kind to) (answer 1 k) (answer 0 k)) (view h ls (Ref a ∷ f.0)) e u) (λ o. Unit {0}) (run_off (instance_of P to k) h ls vs (Ref a ∷ f.0) e u f.1 r) (λ o r. tt)
+
+tails : (x : Value) (us : List Value) (y : Value) (ws : List Value) → x ∷ us ≡ y ∷ ws → us ≡ ws
+tails x us y ws e = cc
+
+-- the operands with an answer in place of the topmost
+answered : (n : ℕ) (k : Script) (h : Heap) (ls : List Value) (v : Value) (us new : List Value) (e : Ending) (u : Within) → new ≡ Int (pos n) ∷ us → Runs k (view h ls new) e u → Runs (answer n k) (view h ls (v ∷ us)) e u
+answered n k h ls v us new e u put r = (omega arith, run_off k h ls new (Int (pos n) ∷ us) e u put r)
+
+pub instance_null : (P : ProgramTables) (to : Kind) (h : Heap) (ls vs us new : List Value) (x : Value) → slice_get vs 0 ≡ Some (reference_to None) → vs ≡ x ∷ us → new ≡ Int (pos 0) ∷ us → Leads (instance_of P to) (view h ls vs) (view h ls new)
+instance_null P to h ls vs us new x top taken put = λ k e u r.
+    let f = first_is vs None top in
+    let t : us ≡ f.0 = tails x us Null f.0 (sym taken ∙ f.1) in
+    run_on (instance_of P to k) h ls vs (Null ∷ f.0) e u f.1 (answered 0 k h ls Null f.0 new e u (put ∙ ap (λ us. Int (pos 0) ∷ us) t) r)
+
+pub instance_leads : (P : ProgramTables) (to : Kind) (a : ℕ) (b : Bool) (n : ℕ) (h : Heap) (ls vs us new : List Value) (x : Value) → slice_get vs 0 ≡ Some (reference_to (Some a)) → Sees P to h a b → n ≡ cond b 1 0
+    → vs ≡ x ∷ us → new ≡ Int (pos n) ∷ us → Leads (instance_of P to) (view h ls vs) (view h ls new)
+instance_leads P to a b n h ls vs us new x top s is taken put = λ k e u r.
+    let f = first_is vs (Some a) top in
+    let t : us ≡ f.0 = tails x us (Ref a) f.0 (sym taken ∙ f.1) in
+    let y = answered n k h ls (Ref a) f.0 new e u (put ∙ ap (λ us. Int (pos n) ∷ us) t) r in
+    run_on (instance_of P to k) h ls vs (Ref a ∷ f.0) e u f.1
+    (some_map (get h a) (λ o. is_sub P o.kind to ≡ b) (λ o. Runs (cond (is_sub P o.kind to) (answer 1 k) (answer 0 k)) (view h ls (Ref a ∷ f.0)) e u) s
+    (λ o q. subst (λ b. Runs (cond b (answer 1 k) (answer 0 k)) (view h ls (Ref a ∷ f.0)) e u) (sym q) (pick b n k (Ref a ∷ f.0) e u is y)))
+  where
+    pick : (b : Bool) (n : ℕ) (k : Script) (vs : List Value) (e : Ending) (u : Within) → n ≡ cond b 1 0 → Runs (answer n k) (view h ls vs) e u → Runs (cond b (answer 1 k) (answer 0 k)) (view h ls vs) e u
+    pick true n k vs e u q r = subst (λ n. Runs (answer n k) (view h ls vs) e u) q r
+    pick false n k vs e u q r = subst (λ n. Runs (answer n k) (view h ls vs) e u) q r

@@ -44,9 +44,14 @@ made_leads c ps old new name ls vs us m put = λ k e u r.
 pub fills_made : (P : ProgramTables) (S : Doing) (c : Kind) (ps : List Plain) (h j : Heap) (ls vs : List Value) (told : Told) → ((n : Option ℕ) → S n ≡ Make c ps (onward n))
     → j ≡ h → told.cells ≡ cells h + cells_of (new_object c ps) → max_cells < told.cells → Went flows.Full P S (view h ls vs) told (view j ls vs)
 fills_made P S c ps h j ls vs told same kept is many =
-    went_by flows.Full P S (λ n. Make c ps (onward n)) (view h ls vs) told (view j ls vs) same
-    (ap (λ h. view h ls vs) kept, (many, λ n. made_cells c ps (onward n) (view h ls vs) told.cells is
-    (λ a e u r. ap (λ (u : Within). u.heap) (nothing_left n (record (view h ls vs) { heap = insert h a (new_object c ps); operands = Ref a ∷ vs }) u e r))))
+    went_by flows.Full P S (λ n. Make c ps (onward n)) (view h ls vs) told (view j ls vs) same (
+      ap (λ h. view h ls vs) kept,
+      (
+        many,
+        λ n. made_cells c ps (onward n) (view h ls vs) told.cells is
+            (λ a e u r. ap (λ (u : Within). u.heap) (nothing_left n (record (view h ls vs) { heap = insert h a (new_object c ps); operands = Ref a ∷ vs }) u e r)),
+      ),
+    )
 
 -- ---- new
 

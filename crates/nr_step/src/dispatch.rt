@@ -18,7 +18,17 @@ use nr_prog::Instr;
 
 /// Does the instruction.
 #[inline(always)]
-pub fn step(p: &Program, own: &MethodInfo, i: &Instr, found: &Resolved, heap: &mut Heap, locals: &mut [Value], stack: &mut [Value], depth: &mut usize, told: &mut Told) -> Flow
+pub fn step(
+    p: &Program,
+    own: &MethodInfo,
+    i: &Instr,
+    found: &Resolved,
+    heap: &mut Heap,
+    locals: &mut [Value],
+    stack: &mut [Value],
+    depth: &mut usize,
+    told: &mut Told,
+) -> Flow
     requires site { (n : Option ℕ) × SiteFacts p.now own.now.«class» (site_of i.now found.now n) }
     requires room { depth.old ≤ length stack.old }
     requires can { CanDo p.now own.now i.now found.now (window heap.old.objects locals.old stack.old depth.old) (length stack.old) }

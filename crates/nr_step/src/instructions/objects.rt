@@ -3,6 +3,7 @@
 ghost use Rattle.std.specs.Prelude.{◌≡◌, ◌≤◌, ℕ, length, Option};
 ghost use Rattle.nr_linked.specs.declared.program.tables.MethodInfo.{MethodInfo};
 ghost use Rattle.nr_linked.specs.TypingFacts.{SiteFacts};
+ghost use Rattle.nr_step.specs.declared.flow.Told.{Told};
 ghost use Rattle.nr_step.specs.Instructions.{CanFind, CanReach, Finds, IsRowOf, Reaches, site_of};
 
 use crate::flow::{Flow, Told};
@@ -15,7 +16,15 @@ use nr_prog::Instr;
 
 /// getfield.
 #[inline(always)]
-pub fn getfield(p: &Program, i: &Instr, found: &Resolved, heap: &mut Heap, stack: &mut [Value], depth: &mut usize, told: &mut Told) -> Flow
+pub fn getfield(
+    p: &Program,
+    i: &Instr,
+    found: &Resolved,
+    heap: &mut Heap,
+    stack: &mut [Value],
+    depth: &mut usize,
+    told: &mut Told,
+) -> Flow
     requires row { IsRowOf 180 i.now.row }
     requires room { depth.old ≤ length stack.old }
     requires can { CanFind p.now i.now found.now heap.old.objects stack.old depth.old }
@@ -37,7 +46,15 @@ pub fn getfield(p: &Program, i: &Instr, found: &Resolved, heap: &mut Heap, stack
 
 /// checkcast.
 #[inline(always)]
-pub fn checkcast(p: &Program, i: &Instr, found: &Resolved, heap: &mut Heap, stack: &[Value], depth: usize, told: &mut Told) -> Flow
+pub fn checkcast(
+    p: &Program,
+    i: &Instr,
+    found: &Resolved,
+    heap: &mut Heap,
+    stack: &[Value],
+    depth: usize,
+    told: &mut Told,
+) -> Flow
     requires row { IsRowOf 192 i.now.row }
     requires room { depth ≤ length stack.now }
     requires can { CanFind p.now i.now found.now heap.old.objects stack.now depth }
@@ -55,9 +72,52 @@ pub fn checkcast(p: &Program, i: &Instr, found: &Resolved, heap: &mut Heap, stac
     throw_object(p, heap, BuiltIn::ClassCastException, told)
 }
 
+/// instanceof.
+#[inline(always)]
+pub fn instanceof(
+    p: &Program,
+    i: &Instr,
+    found: &Resolved,
+    heap: &Heap,
+    stack: &mut [Value],
+    depth: &mut usize,
+) -> Flow
+    requires row { IsRowOf 193 i.now.row }
+    requires room { depth.old ≤ length stack.old }
+    requires can { CanFind p.now i.now found.now heap.now.objects stack.old depth.old }
+    ensures went { (told : Told) → Finds result p.now i.now found.now heap.now.objects stack.old depth.old told heap.now.objects stack.new depth.new }
+    ensures room { depth.new ≤ length stack.new }
+    ensures length { length stack.new ≡ length stack.old }
+{
+    let Resolved::Kind(to) = found else {
+        unreachable!()
+    };
+    let Some(name) = reference_at(0, stack, *depth) else {
+        let _ = pop(stack, depth);
+        push(stack, depth, Value::Int(0));
+        return Flow::Next;
+    };
+    let is = p.is_sub(heap.kind_of(name), *to);
+    let _ = pop(stack, depth);
+    if is {
+        push(stack, depth, Value::Int(1));
+        return Flow::Next;
+    }
+    push(stack, depth, Value::Int(0));
+    Flow::Next
+}
+
 /// new.
 #[inline(always)]
-pub fn new(p: &Program, i: &Instr, found: &Resolved, heap: &mut Heap, stack: &mut [Value], depth: &mut usize, told: &mut Told) -> Flow
+pub fn new(
+    p: &Program,
+    i: &Instr,
+    found: &Resolved,
+    heap: &mut Heap,
+    stack: &mut [Value],
+    depth: &mut usize,
+    told: &mut Told,
+) -> Flow
     requires row { IsRowOf 187 i.now.row }
     requires site { (own : MethodInfo) × (n : Option ℕ) × SiteFacts p.now own.«class» (site_of i.now found.now n) }
     requires room { depth.old ≤ length stack.old }
@@ -87,7 +147,14 @@ pub fn new(p: &Program, i: &Instr, found: &Resolved, heap: &mut Heap, stack: &mu
 
 /// athrow.
 #[inline(always)]
-pub fn athrow(p: &Program, i: &Instr, heap: &mut Heap, stack: &[Value], depth: usize, told: &mut Told) -> Flow
+pub fn athrow(
+    p: &Program,
+    i: &Instr,
+    heap: &mut Heap,
+    stack: &[Value],
+    depth: usize,
+    told: &mut Told,
+) -> Flow
     requires row { IsRowOf 191 i.now.row }
     requires room { depth ≤ length stack.now }
     requires can { CanReach p.now i.now heap.old.objects stack.now depth }

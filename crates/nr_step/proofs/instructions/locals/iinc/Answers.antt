@@ -19,8 +19,13 @@ increment_variable-requires c =
     let f : SFits w16 c.in-Inc.by = search rules in
     let by = to_z w16 (of_z w16 c.in-Inc.by) in
     let a : c.args.i.now.args ≡ args.Inc c.in-Inc.number by = c.in-Inc.is ∙ ap (args.Inc c.in-Inc.number) (sym (to_z-of_z w16 c.in-Inc.by f)) in
-    record { can = (can.3, top_first c.args.stack.now c.args.depth,
-    begin_by can.0 can.1 c.args.i.now can.2 (window can.3 c.args.locals.now c.args.stack.now c.args.depth) (length c.args.stack.now) (increment c.in-Inc.number by) (iinc_rule can.0 can.1 c.args.i.now can.2 c.in-Inc.number by c.requires.row a) can.4) }
+    record {
+      can = (
+        can.3,
+        top_first c.args.stack.now c.args.depth,
+        begin_by can.0 can.1 c.args.i.now can.2 (window can.3 c.args.locals.now c.args.stack.now c.args.depth) (length c.args.stack.now) (increment c.in-Inc.number by) (iinc_rule can.0 can.1 c.args.i.now can.2 c.in-Inc.number by c.requires.row a) can.4,
+      );
+    }
 
 pub returns-clause-went : goal.returns-clause-went
 returns-clause-went c = λ told P own found h.

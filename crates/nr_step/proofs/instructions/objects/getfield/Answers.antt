@@ -44,7 +44,7 @@ pub get_slot-value-requires : goal.get_slot-value-requires
 get_slot-value-requires c =
     let f = slot c.args.p.now c.args.i.now c.args.found.now c.args.heap.now.objects c.args.stack.now c.args.depth.now c.requires.row c.requires.can in
     let t = read_there c.args.p.now f.info f.place c.in-Some.name c.args.heap.now.objects c.requires.can.1 (top_first c.args.stack.now c.args.depth.now)
-      (begun c.args.p.now c.args.i.now c.args.found.now c.args.heap.now.objects c.args.stack.now c.args.depth.now c.requires.row f c.requires.can) c.in-Some.ensures in
+    (begun c.args.p.now c.args.i.now c.args.found.now c.args.heap.now.objects c.args.stack.now c.args.depth.now c.requires.row f c.requires.can) c.in-Some.ensures in
     some_map (get c.args.heap.now.objects c.in-Some.name) (λ o. (is_sub c.args.p.now o.kind (class_kind f.info.declared_in) ≡ true) × (f.place < length o.slots)) (λ o. c.in-Slot.slot < length o.slots) t
     (λ o q. subst (λ n. n < length o.slots) (same_place c.args.found.now f.owner c.in-Slot.field-0 f.place c.in-Slot.slot f.is c.in-Slot.is) q.1)
 
@@ -53,7 +53,7 @@ returns-clause-went c = λ own ls.
     let vs : List Value = top_first c.args.stack.now c.args.depth.now in
     let f = slot c.args.p.now c.args.i.now c.args.found.now c.args.heap.now.objects c.args.stack.now c.args.depth.now c.requires.row c.requires.can in
     let t = read_there c.args.p.now f.info f.place c.in-Some.name c.args.heap.now.objects c.requires.can.1 vs
-      (begun c.args.p.now c.args.i.now c.args.found.now c.args.heap.now.objects c.args.stack.now c.args.depth.now c.requires.row f c.requires.can) c.in-Some.ensures in
+    (begun c.args.p.now c.args.i.now c.args.found.now c.args.heap.now.objects c.args.stack.now c.args.depth.now c.requires.row f c.requires.can) c.in-Some.ensures in
     go_on_by c.args.p.now own c.args.i.now c.args.found.now (window c.args.heap.now.objects ls c.args.stack.now c.args.depth.now) (window c.args.heap.now.objects ls c.push.new.stack c.push.new.depth)
     (reads c.args.p.now f.info f.place) (getfield_rule c.args.p.now own c.args.i.now c.args.found.now c.requires.row f)
     (read_leads c.args.p.now f.info f.place c.in-Some.name c.get_slot-value.result c.args.heap.now.objects ls vs (top_first c.args.stack.now c.pop.new.depth) (top_first c.push.new.stack c.push.new.depth) c.in-Some.ensures t
