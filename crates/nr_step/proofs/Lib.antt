@@ -13,3 +13,4 @@ pub mod Loads
 pub mod Objects
 pub mod Making
 pub mod Casts
+pub mod StackMoves

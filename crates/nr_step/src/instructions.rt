@@ -6,3 +6,4 @@ pub mod jumps;
 pub mod locals;
 pub mod numbers;
 pub mod objects;
+pub mod stack_moves;
