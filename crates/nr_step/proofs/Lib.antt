@@ -14,3 +14,4 @@ pub mod Objects
 pub mod Making
 pub mod Casts
 pub mod StackMoves
+pub mod Returning

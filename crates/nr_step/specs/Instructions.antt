@@ -1,6 +1,6 @@
 -- One instruction as a rule of the model, by its row, its operands and what linking found for it: where it can begin, and
 -- what it leads to.
-use Rattle.std.specs.Prelude.{◌≡◌, ℕ, ◌≤◌, Bool, ◌||◌, ◌==◌, List, length, Option, Contains}
+use Rattle.std.specs.Prelude.{◌≡◌, ℕ, ◌≤◌, Bool, ◌&&◌, ◌||◌, ◌==◌, nat_le, List, length, Option, Contains}
 use Rattle.nr_optable.specs.declared.table.Row.{Row}
 use Rattle.nr_optable.specs.Rows.{all_rows}
 use Rattle.nr_prog.specs.declared.body.instruction.Args.{Args}
@@ -46,6 +46,30 @@ is_load code = code == 21 || (code == 22 || code == 25)
 -- istore, lstore, astore
 abbrev pub is_store : ℕ → Bool
 is_store code = code == 54 || (code == 55 || code == 58)
+
+-- bipush, sipush
+abbrev pub is_push : ℕ → Bool
+is_push code = code == 16 || code == 17
+
+-- ldc, ldc_w, ldc2_w
+abbrev pub is_pool_load : ℕ → Bool
+is_pool_load code = code == 18 || (code == 19 || code == 20)
+
+-- ireturn, lreturn, areturn
+abbrev pub returns_top : ℕ → Bool
+returns_top code = code == 172 || (code == 173 || code == 176)
+
+-- newarray, anewarray
+abbrev pub makes_array : ℕ → Bool
+makes_array code = code == 188 || code == 189
+
+-- iaload, laload, aaload, baload, caload, saload
+abbrev pub is_array_load : ℕ → Bool
+is_array_load code = nat_le 46 code && nat_le code 53
+
+-- iastore, bastore, castore, sastore
+abbrev pub is_int_store : ℕ → Bool
+is_int_store code = code == 79 || (code == 84 || (code == 85 || code == 86))
 
 -- tableswitch, lookupswitch
 abbrev pub is_switch : ℕ → Bool

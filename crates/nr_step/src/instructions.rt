@@ -6,4 +6,5 @@ pub mod jumps;
 pub mod locals;
 pub mod numbers;
 pub mod objects;
+pub mod returns;
 pub mod stack_moves;
