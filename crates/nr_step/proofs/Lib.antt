@@ -15,3 +15,4 @@ pub mod Making
 pub mod Casts
 pub mod StackMoves
 pub mod Returning
+pub mod ArrayRules

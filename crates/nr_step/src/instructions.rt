@@ -1,5 +1,6 @@
 //! The instructions, each with its whole rule: what the model's script at its site does.
 
+pub mod arrays;
 pub mod constants;
 pub mod divisions;
 pub mod jumps;
