@@ -16,3 +16,4 @@ pub mod Casts
 pub mod StackMoves
 pub mod Returning
 pub mod ArrayRules
+pub mod ArrayStores
