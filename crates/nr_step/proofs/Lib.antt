@@ -17,3 +17,5 @@ pub mod StackMoves
 pub mod Returning
 pub mod ArrayRules
 pub mod ArrayStores
+pub mod NewArrays
+pub mod Calling

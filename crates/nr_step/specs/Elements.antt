@@ -20,3 +20,8 @@ are_ints el = false
 -- so are those of the arrays of the instruction with the code
 abbrev pub holds_ints : ℕ → Bool
 holds_ints code = on_some (elements_of code) false are_ints
+
+-- how many elements a new array has, if it can have so many
+abbrev pub count_of : ℤ → Option ℕ
+count_of (pos n) = Some n
+count_of (negsuc n) = None

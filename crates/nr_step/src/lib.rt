@@ -4,7 +4,6 @@
 mod arithmetic;
 mod branches;
 mod constants;
-mod dispatch;
 mod flow;
 mod instructions;
 mod moves;

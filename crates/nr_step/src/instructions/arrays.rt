@@ -146,3 +146,31 @@ pub fn lastore(
     *depth = below;
     Flow::Next
 }
+
+/// arraylength.
+#[inline(always)]
+pub fn arraylength(
+    p: &Program,
+    i: &Instr,
+    heap: &mut Heap,
+    stack: &mut [Value],
+    depth: &mut usize,
+    told: &mut Told,
+) -> Flow
+    requires row { IsRowOf 190 i.now.row }
+    requires room { depth.old ≤ length stack.old }
+    requires can { CanReach p.now i.now heap.old.objects stack.old depth.old }
+    ensures went { Reaches result p.now i.now heap.old.objects stack.old depth.old told.new heap.new.objects stack.new depth.new }
+    ensures room { depth.new ≤ length stack.new }
+    ensures length { length stack.new ≡ length stack.old }
+{
+    let Some(name) = reference_at(0, stack, *depth) else {
+        return throw_object(p, heap, BuiltIn::NullPointerException, told);
+    };
+    let _ = heap.cells();
+    let len = heap.len_of(name).unwrap();
+    let length = len.cast_signed();
+    let _ = pop(stack, depth);
+    push(stack, depth, Value::Int(length));
+    Flow::Next
+}
