@@ -1,6 +1,7 @@
 //! What arrays of each kind hold.
 
-ghost use Rattle.std.specs.Prelude.{◌≡◌, ◌<◌, ◌≤◌, ◌^◌, length};
+ghost use Rattle.std.specs.Prelude.{◌≡◌, ◌<◌, ◌≤◌, ◌^◌, IsSomeAnd, length};
+ghost use Rattle.std.specs.FinMap.{get};
 ghost use Rattle.std.specs.List.{All};
 ghost use Rattle.nr_linked.specs.Kinds.{array_of};
 ghost use Rattle.nr_heap.specs.Contents.{Keeps};
@@ -8,28 +9,51 @@ ghost use Rattle.nr_heap.specs.Contents.{Keeps};
 use crate::fault::HeapFault;
 use crate::heap::Heap;
 use nr_linked::{Base, Kind};
-use nr_model::Value;
+use nr_model::{Ref, Value};
 use std::test::Fail;
 
-/// Whether a new array of these values keeps each in its place, and zeros or nulls before.
+/// Whether each element of an array is this value.
+fn holds_only(heap: &Heap, array: Ref, len: u32, value: Value) -> bool
+    requires { IsSomeAnd (get heap.now.objects array) (λ o. length o.slots ≡ len) }
+{
+    for place in 0..len {
+        if heap.get_slot(array, place) != value {
+            return false;
+        }
+    }
+    true
+}
+
+/// Whether the elements of an array are these values.
+fn holds(heap: &Heap, array: Ref, values: &[Value]) -> bool
+    requires few { length values.now < 2 ^ 32 }
+    requires array { IsSomeAnd (get heap.now.objects array) (λ o. length o.slots ≡ length values.now) }
+{
+    for (place, value) in values.iter().enumerate() {
+        if heap.get_slot(array, place as u32) != *value {
+            return false;
+        }
+    }
+    true
+}
+
+/// Whether a new array of these values keeps each in its place, and has zeros or nulls before.
+#[tactic(auto, using(crate::proofs::Tested::has_array, crate::proofs::Tested::has_length, crate::proofs::Tested::has_run, crate::proofs::Tested::keeps_run, crate::proofs::Tested::has_written))]
 fn keeps(heap: &mut Heap, elem: Kind, zero: Value, values: &[Value]) -> Result<bool, HeapFault>
     requires dims { elem.dims ≤ 254 }
     requires few { length values.now < 2 ^ 32 }
     requires keeps { All (Keeps (array_of elem)) values.now }
 {
-    let array = heap.new_array(elem, values.len() as u32)?;
-    let mut same = heap.len_of(array) == Some(values.len() as u32);
-    for place in 0..values.len() as u32 {
-        same = same && heap.get_slot(array, place) == zero;
-    }
+    let len = values.len() as u32;
+    let array = heap.new_array(elem, len)?;
+    let is_new = heap.len_of(array) == Some(len) && holds_only(heap, array, len, zero);
     heap.write_run(array, 0, values);
-    for (place, value) in values.iter().enumerate() {
-        same = same && heap.get_slot(array, place as u32) == *value;
-    }
-    Ok(same)
+    Ok(is_new && holds(heap, array, values))
 }
 
-fn one(base: Base) -> Kind {
+fn one(base: Base) -> Kind
+    ensures { result ≡ record { dims = 0; base = base } }
+{
     Kind { dims: 0, base }
 }
 
