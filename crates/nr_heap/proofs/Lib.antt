@@ -7,3 +7,4 @@ pub mod Makes
 pub mod Cuts
 pub mod Runs
 pub mod Typed
+pub mod Tested

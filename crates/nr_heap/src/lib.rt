@@ -6,6 +6,8 @@ mod form;
 mod heap;
 mod law;
 mod place;
+#[cfg(test)]
+mod tests;
 
 pub use fault::HeapFault;
 pub use heap::{Heap, Mark};

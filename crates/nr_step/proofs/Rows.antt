@@ -12,11 +12,11 @@ use Rattle.nr_model.specs.Rules.{script}
 use Rattle.nr_model.specs.Scripts.{Ending, GoTo, GoesTo, Runs, Script, Within}
 use Rattle.nr_model.specs.Throws.{onward}
 use Rattle.nr_step.specs.Windows.{CanBegin, Leads}
-use Rattle.nr_step.specs.Instructions.{site_of, CanDo, GoesOn}
+use Rattle.nr_step.specs.Instructions.{doing, site_of, CanDo}
 
 -- ---- what holds of each row of the table
 
-both : (a b : Bool) → (a && b) ≡ true → (a ≡ true) × (b ≡ true)
+pub both : (a b : Bool) → (a && b) ≡ true → (a ≡ true) × (b ≡ true)
 both true true e = (refl, refl)
 both true false e = absurd cc
 both false b e = absurd cc
@@ -46,7 +46,7 @@ begin_by P own i found w room F same can =
     (onward can.next, can.ending, can.left, subst (λ sc. Runs sc w can.ending can.left) (same can.next) can.runs)
 
 pub go_on_by : (P : ProgramTables) (own : MethodInfo) (i : Instr) (found : Resolved) (w v : Within) (F : Script → Script)
-    → IsRule P own i found F → Leads F w v → GoesOn P own i found w v
+    → IsRule P own i found F → Leads F w v → (n : ℕ) → Runs (doing P own i found (Some n)) w (GoesTo n) v
 go_on_by P own i found w v F same l = λ n. subst (λ sc. Runs sc w (GoesTo n) v) (sym (same (Some n))) (l (GoTo n) (GoesTo n) v (refl, refl))
 
 -- ---- room

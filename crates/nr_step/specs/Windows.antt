@@ -1,10 +1,9 @@
 -- How the values of a frame are seen: the locals, and of the operands those in use, the topmost first.
-use Rattle.std.specs.Prelude.{◌≡◌, ℕ, zero, suc, ◌<◌, List, [], ◌∷◌, Option, Some, None, slice_index_or}
+use Rattle.std.specs.Prelude.{ℕ, zero, suc, List, [], ◌∷◌, Option, Some, None, IsSomeAnd, slice_get, slice_index_or}
 use Rattle.nr_model.specs.declared.value.Value.{Value}
 use Rattle.nr_model.specs.declared.value.Value.TheVariants.{Null, Ref}
-use Rattle.nr_model.specs.Heaps.{Heap, cells}
-use Rattle.nr_model.specs.Outcomes.{max_cells}
-use Rattle.nr_model.specs.Scripts.{Script, GoTo, Within, Ending, Runs, Threw, OnTop, OnInt, OnLong, OnReference}
+use Rattle.nr_model.specs.Heaps.{Heap}
+use Rattle.nr_model.specs.Scripts.{Script, Within, Ending, Runs, OnTop, OnInt, OnLong, OnReference}
 
 abbrev pub top_first : List Value → ℕ → List Value
 top_first stack zero = []
@@ -27,6 +26,9 @@ LongOnTop vs = OnTop vs (λ v us. OnLong v (λ n. Unit {0}))
 abbrev pub ReferenceOnTop : List Value → Type 0
 ReferenceOnTop vs = OnTop vs (λ v us. OnReference v (λ r. Unit {0}))
 
+abbrev pub ReferenceAt : List Value → ℕ → Type 0
+ReferenceAt vs at = IsSomeAnd (slice_get vs at) (λ v. OnReference v (λ r. Unit {0}))
+
 -- null, or the reference to the object of this name
 abbrev pub reference_to : Option ℕ → Value
 reference_to None = Null
@@ -39,12 +41,3 @@ CanBegin F w = (k : Script) × (e : Ending) × (v : Within) × Runs (F k) w e v
 -- what goes on from v goes on after F from w
 abbrev pub Leads : (Script → Script) → Within → Within → Type 0
 Leads F w v = (k : Script) (e : Ending) (u : Within) → Runs k v e u → Runs (F k) w e u
-
--- F throws the object of this name from w, whatever would follow, and leaves the heap h; what operands are left is no
--- matter
-abbrev pub Throws : (Script → Script) → Within → ℕ → Heap → Type 0
-Throws F w a h = (k : Script) → (u : Within) × Runs (F k) w (Threw a) u × (u.heap ≡ h) × (u.printed ≡ [])
-
--- each run of F from w leaves more cells than a heap may have
-abbrev pub Fills : (Script → Script) → Within → Type 0
-Fills F w = (n : ℕ) (e : Ending) (u : Within) → Runs (F (GoTo n)) w e u → max_cells < cells u.heap

@@ -1,22 +1,33 @@
 //! How an instruction went.
 
-/// How an instruction went.
+/// How an instruction went. But for `Next` and `Branch` the locals and the operands are as they were.
 #[derive(Clone, Copy, Debug, PartialEq, Eq)]
 pub enum Flow {
     /// On at the next instruction.
     Next,
-    /// On at the target.
+    /// On at the offset told.
     Branch,
-    /// It throws an object.
+    /// It throws the object of the name told.
     Throw,
-    /// It calls a method, whose arguments are the topmost operands.
+    /// It calls the method told, whose arguments are the topmost operands.
     Invoke,
+    /// It calls the method of `nrmi/Out` told, whose arguments are the topmost operands.
+    Print,
     /// From the method, with nothing.
     Return,
     /// From the method, with the topmost operand.
     ReturnTop,
-    /// Memory ran out, and nothing changed.
+    /// Memory ran out, and the heap is as it was.
     NoMemory,
-    /// The heap would pass its limit, and nothing changed.
+    /// The heap would pass its limit, by the cells told, and is as it was.
     Full,
+}
+
+/// What an instruction tells beside how it went.
+#[derive(Clone, Copy, Debug, PartialEq, Eq)]
+pub struct Told {
+    /// An offset, an object's name or a method.
+    pub number: u32,
+    /// The cells that the heap would have, or 2^64 - 1 where it would have more.
+    pub cells: u64,
 }

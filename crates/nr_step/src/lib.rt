@@ -9,4 +9,5 @@ mod instructions;
 mod moves;
 mod operands;
 mod references;
+mod throws;
 mod variables;

@@ -3,7 +3,7 @@
 ghost use Rattle.std.specs.Prelude.{◌≡◌, ◌∷◌, ◌<◌, ◌≤◌, ◌+◌, length, slice_get, Some};
 ghost use Rattle.nr_model.specs.declared.value.Value.TheVariants.{Int, Long};
 ghost use Rattle.nr_model.specs.Scripts.{OnTop};
-ghost use Rattle.nr_step.specs.Windows.{IntOnTop, LongOnTop, ReferenceOnTop, reference_to, top_first};
+ghost use Rattle.nr_step.specs.Windows.{IntOnTop, LongOnTop, ReferenceAt, ReferenceOnTop, reference_to, top_first};
 
 use nr_model::{Ref, Value};
 
@@ -110,4 +110,18 @@ pub fn operand_at(at: usize, stack: &[Value], depth: usize) -> Value
 {
     let mut above = depth - at;
     pop(stack, &mut above)
+}
+
+/// The reference at a depth, counted from the top: the name, or `None` for null.
+#[inline(always)]
+pub fn reference_at(at: usize, stack: &[Value], depth: usize) -> Option<Ref>
+    requires room { depth ≤ length stack.now }
+    requires some { ReferenceAt (top_first stack.now depth) at }
+    ensures { slice_get (top_first stack.now depth) at ≡ Some (reference_to result) }
+{
+    match operand_at(at, stack, depth) {
+        Value::Null => None,
+        Value::Ref(name) => Some(name),
+        _ => unreachable!(),
+    }
 }

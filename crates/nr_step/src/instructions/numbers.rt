@@ -3,7 +3,7 @@
 ghost use Rattle.std.specs.Prelude.{◌≡◌, ◌≤◌, length, IsSome};
 ghost use Rattle.nr_optable.specs.Operations.{int_narrowing as int_narrowings, int_operation, int_shift as int_shifts, long_operation, long_shift as long_shifts};
 ghost use Rattle.nr_step.specs.Instructions.{CanOperate, IsRowOf, Operates};
-ghost use Rattle.nr_step.specs.declared.flow.Flow.TheVariants.{Next};
+ghost use Rattle.nr_step.specs.declared.flow.Told.{Told};
 
 use crate::arithmetic::{
     compared_longs, int_as_long, long_as_int, narrowed_int, negated_int, negated_long, shifted_int,
@@ -20,8 +20,7 @@ pub fn int_pair(i: &Instr, code: u8, stack: &mut [Value], depth: &mut usize) -> 
     requires code { IsSome (int_operation code) }
     requires room { depth.old ≤ length stack.old }
     requires can { CanOperate i.now stack.old depth.old }
-    ensures goes_on { result ≡ Next }
-    ensures next { Operates i.now stack.old depth.old stack.new depth.new }
+    ensures went { (told : Told) → Operates result i.now stack.old depth.old told stack.new depth.new }
     ensures room { depth.new ≤ length stack.new }
     ensures length { length stack.new ≡ length stack.old }
 {
@@ -36,8 +35,7 @@ pub fn long_pair(i: &Instr, code: u8, stack: &mut [Value], depth: &mut usize) ->
     requires code { IsSome (long_operation code) }
     requires room { depth.old ≤ length stack.old }
     requires can { CanOperate i.now stack.old depth.old }
-    ensures goes_on { result ≡ Next }
-    ensures next { Operates i.now stack.old depth.old stack.new depth.new }
+    ensures went { (told : Told) → Operates result i.now stack.old depth.old told stack.new depth.new }
     ensures room { depth.new ≤ length stack.new }
     ensures length { length stack.new ≡ length stack.old }
 {
@@ -52,8 +50,7 @@ pub fn int_shift(i: &Instr, code: u8, stack: &mut [Value], depth: &mut usize) ->
     requires code { IsSome (int_shifts code) }
     requires room { depth.old ≤ length stack.old }
     requires can { CanOperate i.now stack.old depth.old }
-    ensures goes_on { result ≡ Next }
-    ensures next { Operates i.now stack.old depth.old stack.new depth.new }
+    ensures went { (told : Told) → Operates result i.now stack.old depth.old told stack.new depth.new }
     ensures room { depth.new ≤ length stack.new }
     ensures length { length stack.new ≡ length stack.old }
 {
@@ -68,8 +65,7 @@ pub fn long_shift(i: &Instr, code: u8, stack: &mut [Value], depth: &mut usize) -
     requires code { IsSome (long_shifts code) }
     requires room { depth.old ≤ length stack.old }
     requires can { CanOperate i.now stack.old depth.old }
-    ensures goes_on { result ≡ Next }
-    ensures next { Operates i.now stack.old depth.old stack.new depth.new }
+    ensures went { (told : Told) → Operates result i.now stack.old depth.old told stack.new depth.new }
     ensures room { depth.new ≤ length stack.new }
     ensures length { length stack.new ≡ length stack.old }
 {
@@ -84,8 +80,7 @@ pub fn int_narrowing(i: &Instr, code: u8, stack: &mut [Value], depth: &mut usize
     requires code { IsSome (int_narrowings code) }
     requires room { depth.old ≤ length stack.old }
     requires can { CanOperate i.now stack.old depth.old }
-    ensures goes_on { result ≡ Next }
-    ensures next { Operates i.now stack.old depth.old stack.new depth.new }
+    ensures went { (told : Told) → Operates result i.now stack.old depth.old told stack.new depth.new }
     ensures room { depth.new ≤ length stack.new }
     ensures length { length stack.new ≡ length stack.old }
 {
@@ -99,8 +94,7 @@ pub fn ineg(i: &Instr, stack: &mut [Value], depth: &mut usize) -> Flow
     requires row { IsRowOf 116 i.now.row }
     requires room { depth.old ≤ length stack.old }
     requires can { CanOperate i.now stack.old depth.old }
-    ensures goes_on { result ≡ Next }
-    ensures next { Operates i.now stack.old depth.old stack.new depth.new }
+    ensures went { (told : Told) → Operates result i.now stack.old depth.old told stack.new depth.new }
     ensures room { depth.new ≤ length stack.new }
     ensures length { length stack.new ≡ length stack.old }
 {
@@ -114,8 +108,7 @@ pub fn lneg(i: &Instr, stack: &mut [Value], depth: &mut usize) -> Flow
     requires row { IsRowOf 117 i.now.row }
     requires room { depth.old ≤ length stack.old }
     requires can { CanOperate i.now stack.old depth.old }
-    ensures goes_on { result ≡ Next }
-    ensures next { Operates i.now stack.old depth.old stack.new depth.new }
+    ensures went { (told : Told) → Operates result i.now stack.old depth.old told stack.new depth.new }
     ensures room { depth.new ≤ length stack.new }
     ensures length { length stack.new ≡ length stack.old }
 {
@@ -129,8 +122,7 @@ pub fn i2l(i: &Instr, stack: &mut [Value], depth: &mut usize) -> Flow
     requires row { IsRowOf 133 i.now.row }
     requires room { depth.old ≤ length stack.old }
     requires can { CanOperate i.now stack.old depth.old }
-    ensures goes_on { result ≡ Next }
-    ensures next { Operates i.now stack.old depth.old stack.new depth.new }
+    ensures went { (told : Told) → Operates result i.now stack.old depth.old told stack.new depth.new }
     ensures room { depth.new ≤ length stack.new }
     ensures length { length stack.new ≡ length stack.old }
 {
@@ -144,8 +136,7 @@ pub fn l2i(i: &Instr, stack: &mut [Value], depth: &mut usize) -> Flow
     requires row { IsRowOf 136 i.now.row }
     requires room { depth.old ≤ length stack.old }
     requires can { CanOperate i.now stack.old depth.old }
-    ensures goes_on { result ≡ Next }
-    ensures next { Operates i.now stack.old depth.old stack.new depth.new }
+    ensures went { (told : Told) → Operates result i.now stack.old depth.old told stack.new depth.new }
     ensures room { depth.new ≤ length stack.new }
     ensures length { length stack.new ≡ length stack.old }
 {
@@ -159,8 +150,7 @@ pub fn lcmp(i: &Instr, stack: &mut [Value], depth: &mut usize) -> Flow
     requires row { IsRowOf 148 i.now.row }
     requires room { depth.old ≤ length stack.old }
     requires can { CanOperate i.now stack.old depth.old }
-    ensures goes_on { result ≡ Next }
-    ensures next { Operates i.now stack.old depth.old stack.new depth.new }
+    ensures went { (told : Told) → Operates result i.now stack.old depth.old told stack.new depth.new }
     ensures room { depth.new ≤ length stack.new }
     ensures length { length stack.new ≡ length stack.old }
 {

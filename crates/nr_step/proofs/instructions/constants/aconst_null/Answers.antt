@@ -12,6 +12,6 @@ null-requires c =
           (pushed PlainNull (window can.3 can.4 c.args.stack.now c.args.depth.now)) can.5;
     }
 
-pub returns-clause-next : goal.returns-clause-next
-returns-clause-next c = λ P own found h ls.
+pub returns-clause-went : goal.returns-clause-went
+returns-clause-went c = λ told P own found h ls.
     go_on_by P own c.args.i.now found (window h ls c.args.stack.now c.args.depth.now) (window h ls c.null.new.stack c.null.new.depth) (Push PlainNull) (null_rule P own c.args.i.now found c.requires.row) (c.null.ensures.leads h ls)

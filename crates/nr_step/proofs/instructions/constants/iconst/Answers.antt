@@ -12,6 +12,6 @@ small_int-requires-clause-room c =
     push_fits can.0 can.1 c.args.i.now can.2 can.3 can.4 c.args.stack.now c.args.depth.now (small_constant c.args.code args.Empty) (small_rule can.0 can.1 c.args.i.now can.2 c.args.code c.requires.row c.requires.low (omega (arith, c.requires.high)) c.requires.shaped)
     (small_pushed c.args.code (window can.3 can.4 c.args.stack.now c.args.depth.now)) can.5
 
-pub returns-clause-next : goal.returns-clause-next
-returns-clause-next c = λ P own found h ls.
+pub returns-clause-went : goal.returns-clause-went
+returns-clause-went c = λ told P own found h ls.
     go_on_by P own c.args.i.now found (window h ls c.args.stack.now c.args.depth.now) (window h ls c.small_int.new.stack c.small_int.new.depth) (small_constant c.args.code args.Empty) (small_rule P own c.args.i.now found c.args.code c.requires.row c.requires.low (omega (arith, c.requires.high)) c.requires.shaped) (c.small_int.ensures.leads h ls)

@@ -10,6 +10,6 @@ compared_longs-requires-clause-can c =
     let can = c.requires.can in
     (can.3, can.4, begin_by can.0 can.1 c.args.i.now can.2 (window can.3 can.4 c.args.stack.now c.args.depth.now) (length c.args.stack.now) comparison (lcmp_rule can.0 can.1 c.args.i.now can.2 c.requires.row) can.5)
 
-pub returns-clause-next : goal.returns-clause-next
-returns-clause-next c = λ P own found h ls.
+pub returns-clause-went : goal.returns-clause-went
+returns-clause-went c = λ told P own found h ls.
     go_on_by P own c.args.i.now found (window h ls c.args.stack.now c.args.depth.now) (window h ls c.compared_longs.new.stack c.compared_longs.new.depth) comparison (lcmp_rule P own c.args.i.now found c.requires.row) (c.compared_longs.ensures.leads h ls)

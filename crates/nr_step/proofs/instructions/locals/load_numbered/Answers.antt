@@ -1,0 +1,23 @@
+use Rattle.std.proofs.Common.{length}
+use Rattle.nr_model.specs.ValueRules.{load}
+use Rattle.nr_step.specs.Windows.{top_first, window}
+use Rattle.nr_step.proofs.ConstantRules.{push_fits}
+use Rattle.nr_step.proofs.Loads.{letter_loaded, load_elsewhere, load_pushed, numbered_load_rule}
+use Rattle.nr_step.proofs.Rows.{begin_by, go_on_by}
+use Rattle.nr_step.proofs.instructions.locals.load_numbered.Goals as goal
+
+pub load_variable-requires-clause-room : goal.load_variable-requires-clause-room
+load_variable-requires-clause-room c =
+    let can = c.requires.can in
+    push_fits can.0 can.1 c.args.i.now can.2 can.3 c.args.locals.now c.args.stack.now c.args.depth.now (load (letter_loaded c.args.i.now) c.from.result) (numbered_load_rule can.0 can.1 c.args.i.now can.2 c.args.code c.from.result c.requires.row c.requires.low c.requires.high c.requires.shaped c.from.ensures) (load_pushed (letter_loaded c.args.i.now) c.from.result can.3 c.args.locals.now (top_first c.args.stack.now c.args.depth.now)) can.4
+
+pub load_variable-requires-clause-can : goal.load_variable-requires-clause-can
+load_variable-requires-clause-can c =
+    let can = c.requires.can in
+    (letter_loaded c.args.i.now, can.3, begin_by can.0 can.1 c.args.i.now can.2 (window can.3 c.args.locals.now c.args.stack.now c.args.depth.now) (length c.args.stack.now) (load (letter_loaded c.args.i.now) c.from.result) (numbered_load_rule can.0 can.1 c.args.i.now can.2 c.args.code c.from.result c.requires.row c.requires.low c.requires.high c.requires.shaped c.from.ensures) can.4)
+
+pub returns-clause-went : goal.returns-clause-went
+returns-clause-went c = λ told P own found h.
+    let can = c.requires.can in
+    go_on_by P own c.args.i.now found (window h c.args.locals.now c.args.stack.now c.args.depth.now) (window h c.args.locals.now c.load_variable.new.stack c.load_variable.new.depth) (load (letter_loaded c.args.i.now) c.from.result) (numbered_load_rule P own c.args.i.now found c.args.code c.from.result c.requires.row c.requires.low c.requires.high c.requires.shaped c.from.ensures)
+    (c.load_variable.ensures.leads (letter_loaded c.args.i.now) h (load_elsewhere (letter_loaded c.args.i.now) c.from.result can.3 h c.args.locals.now (top_first c.args.stack.now c.args.depth.now) (begin_by can.0 can.1 c.args.i.now can.2 (window can.3 c.args.locals.now c.args.stack.now c.args.depth.now) (length c.args.stack.now) (load (letter_loaded c.args.i.now) c.from.result) (numbered_load_rule can.0 can.1 c.args.i.now can.2 c.args.code c.from.result c.requires.row c.requires.low c.requires.high c.requires.shaped c.from.ensures) can.4)))
