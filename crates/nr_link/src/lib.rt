@@ -9,6 +9,7 @@ mod built_in;
 mod built_in_methods;
 mod closure;
 mod code;
+mod completion;
 mod cycles;
 mod fields;
 mod finals;
