@@ -7,6 +7,7 @@ use Rattle.std.specs.Option.{option_map_or, option_or}
 use Rattle.nr_prog.specs.declared.body.whole.Body.{Body}
 use Rattle.nr_linked.specs.declared.program.tables.MethodInfo.{MethodInfo}
 use Rattle.nr_linked.specs.declared.program.tables.ProgramTables.{ProgramTables}
+use Rattle.nr_linked.specs.Linked.{first_built_in_method}
 use Rattle.nr_linkrules.specs.declared.fault.LinkFault.{LinkFault}
 use Rattle.nr_linkrules.specs.Completion.{completed}
 use Rattle.nr_linkrules.specs.Faults.{first_of}
@@ -130,3 +131,21 @@ leaves_on i before after found later out longer total b same none l so_far =
     ap (λ (ys : List MethodInfo). ys ++ (map (λ (p : MethodInfo × Found). completed_by p.0 p.1) (zip after later) ++ drop (length later) after)) l
     ∙ leaves i before after later out total b (sym same ∙ nil_from_length found none)
     (ap (λ (fs : List Found). out ++ (map (λ (p : MethodInfo × Found). completed_by p.0 p.1) (zip before fs) ++ drop (length fs) before)) (sym same) ∙ so_far)
+
+-- ---- the methods of classes that were loaded, as the first of all
+
+pub loaded_by : (P : ProgramTables) (count len : ℕ) (ms : List MethodInfo) → count ≡ len - 23 → len ≡ length P.methods → ms ≡ P.methods → take count ms ≡ loaded_methods P
+loaded_by P count len ms c l m =
+    let n : count ≡ length P.methods - 23 = c ∙ ap (λ n. n - 23) l in
+    λ i. take (n i) (m i)
+
+pub faults_by : (P : ProgramTables) → All (λ (i : MethodInfo). i.body ≡ None) (later_methods P) → (ms : List MethodInfo) → ms ≡ loaded_methods P
+    → option_or (first_of (code_fault P) ms) (first_of (around_fault P) ms) ≡ code_faults P
+faults_by P later ms e = ap (λ (ms : List MethodInfo). option_or (first_of (code_fault P) ms) (first_of (around_fault P) ms)) e ∙ faults_in_loaded P later
+
+pub finishes : (P : ProgramTables) (ms methods : List MethodInfo) (found : List Found) → ms ≡ loaded_methods P → found ≡ map (found_for P) ms
+    → methods ≡ map (λ (p : MethodInfo × Found). completed_by p.0 p.1) (zip P.methods found) ++ drop (length found) P.methods
+    → record P { methods = methods } ≡ finished P
+finishes P ms methods found e f m =
+    let all = m ∙ all_completed P (first_built_in_method P) P.methods found (f ∙ ap (map (found_for P)) e) in
+    λ i. record P { methods = all i }

@@ -23,3 +23,4 @@ pub mod Layouts
 pub mod Places
 pub mod AroundMethods
 pub mod Finishing
+pub mod LinkedPrograms
