@@ -21,3 +21,6 @@ pub mod Marks
 pub mod Hiding
 pub mod Layouts
 pub mod Places
+pub mod AroundMethods
+pub mod Finishing
+pub mod LinkedPrograms

@@ -35,7 +35,7 @@ gathered f i xs out total le so_far =
 
 -- ---- one for each item
 
-one_each : {X Y : Type 0} (f : X → Y) (i : ℕ) (xs : List X) (d : X) → i < length xs
+pub one_each : {X Y : Type 0} (f : X → Y) (i : ℕ) (xs : List X) (d : X) → i < length xs
     → map f (drop i xs) ≡ f (get_or xs i d) ∷ map f (drop (i + 1) xs)
 one_each f i xs d lt = rw (drop-cons xs i d lt, add-one i) refl
 

@@ -1,6 +1,6 @@
-//! Linking (JVM Specification 5.3 and 5.4, and the project's own profile and order), as far as it
-//! stands: the rules on the list of classes, the outline of a program, the rules on what classes name
-//! above them and on cycles, the class that declares a field, and the class that is served.
+//! Linking (JVM Specification 5.3 and 5.4, and the project's own profile and order): the program that
+//! some classes make, or the first rule that they break; the method with which a run begins, and the
+//! class that is served.
 #![tactic(auto)]
 
 mod above;
@@ -9,6 +9,7 @@ mod built_in;
 mod built_in_methods;
 mod closure;
 mod code;
+mod completion;
 mod cycles;
 mod fields;
 mod finals;
@@ -17,6 +18,7 @@ mod gathering;
 mod kinds;
 mod known;
 mod layout;
+mod linking;
 mod list;
 mod mains;
 mod members;
@@ -28,5 +30,6 @@ mod service;
 mod sites;
 mod tables;
 
+pub use linking::link;
 pub use mains::find_main;
 pub use service::find_service;
