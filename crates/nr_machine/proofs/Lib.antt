@@ -18,3 +18,4 @@ pub mod Starting
 pub mod AskedCalls
 pub mod AskingMachines
 pub mod Resuming
+pub mod Throwing

@@ -40,7 +40,7 @@ some_eq e = cc
 keeps_itself : (h : Heap) → KeepsNames h h
 keeps_itself h = record { at = λ a o e. (o, e, refl) }
 
-state_same : (s t : State) → s.heap ≡ t.heap → s.control ≡ t.control → s.printed ≡ t.printed → s ≡ t
+pub state_same : (s t : State) → s.heap ≡ t.heap → s.control ≡ t.control → s.printed ≡ t.printed → s ≡ t
 state_same s t e f g = ap₂ (λ h c. record { heap = h; control = c; printed = s.printed }) e f ∙ ap (λ bs. record { heap = t.heap; control = t.control; printed = bs }) g
 
 -- ---- limits

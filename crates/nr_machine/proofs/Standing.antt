@@ -1,6 +1,9 @@
 -- States that stand can go on: what the code asks of the running frame.
 use Rattle.std.proofs.Common.{◌≡◌, ℕ, zero, suc, ◌+◌, ◌-◌, ◌≤◌, List, [], ◌∷◌, ◌++◌, length, refl, sym, ap, subst, ◌∙◌, arith}
-use Rattle.std.specs.Prelude.{Option, Some, None, IsSome, IsSomeAnd, replicate, reverse}
+use Rattle.std.specs.Option.{option_and_then}
+use Rattle.std.proofs.lemmas.Bool.{leb-true}
+use Rattle.nr_model.specs.CallRules.{operands_of}
+use Rattle.std.specs.Prelude.{Bool, Option, Some, None, IsSome, IsSomeAnd, drop, false, nat_le, replicate, reverse, take, true, if◌then◌else◌}
 use Rattle.std.proofs.lemmas.List.{length-append, length-replicate, reverse-reverse}
 use Rattle.nr_prog.specs.declared.body.whole.Body.{Body}
 use Rattle.nr_linked.specs.declared.program.kind.Kind.{Kind}
@@ -15,11 +18,14 @@ use Rattle.nr_model.specs.declared.value.Value.TheVariants.{Null}
 use Rattle.nr_model.specs.Belonging.{Belong, no_place, one_place}
 use Rattle.nr_model.specs.Heaps.{Heap}
 use Rattle.nr_model.specs.States.{Frame, Control, Running, Returned, Thrown}
-use Rattle.nr_model.specs.Steps.{first_frame, first_locals, spread}
+use Rattle.nr_model.specs.Steps.{entered, first_frame, first_locals, spread}
 use Rattle.nr_model.specs.Types.{Ty, operand_tys, local_tys}
 use Rattle.nr_typed.specs.Standing.{Holds, Stands, AllStand, ControlStands}
-use Rattle.nr_machine.specs.CallStacks.{CanBegin, CanGoOn, CanRun}
+use Rattle.nr_machine.specs.CallStacks.{CanBegin, CanEnter, CanGoOn, CanRun}
 use Rattle.nr_machine.proofs.Calls.{some_both}
+
+some_eq : {X : Type 0} {a b : X} → Some a ≡ Some b → a ≡ b
+some_eq e = cc
 
 as_many : (P : ProgramTables) (h : Heap) (ts : List Ty) (vs : List Value) → Belong P h ts vs → length vs ≡ length ts
 as_many P h ts vs no_place = refl
@@ -71,3 +77,28 @@ module _ (P : ProgramTables) (frames : ℕ → List TypeFrame) (h : Heap) where
   arguments_fit m i args e st =
       let l = locals_held (first_frame i m args) i e st.holds in
       omega (arith, l, length-append (spread (reverse args)) (replicate (i.max_locals - length (spread (reverse args))) Null))
+
+-- a frame that calls has what entering takes, where the state after the call stands
+module _ (P : ProgramTables) (frames : ℕ → List TypeFrame) (h : Heap) (result : Option Kind) (m : ℕ) (f : Frame) (fs : List Frame) (c : Control) (q : ControlStands P frames result h c) where
+  abbrev after_call : MethodInfo → Control
+  after_call i = Running (first_frame i m (take (operands_of i) f.operands) ∷ record f { operands = drop (operands_of i) f.operands } ∷ fs)
+
+  found : (i : MethodInfo) → method_at P m ≡ Some i → (b : Bool) → nat_le (operands_of i) (length f.operands) ≡ b → (if b then Some (after_call i) else None) ≡ Some c → CanEnter P m f
+  found i g false t e = absurd cc
+  found i g true t e =
+      let st : Stands P frames h (first_frame i m (take (operands_of i) f.operands)) = (subst (ControlStands P frames result h) (some_eq (sym e)) q).0 in
+      record {
+        method = i;
+        body = st.holds.body;
+        is_method = g;
+        is_body = subst (λ (i : MethodInfo). i.body ≡ Some st.holds.body) (some_both st.holds.is_method g) st.holds.is_body;
+        enough = leb-true (operands_of i) (length f.operands) t;
+        fits = arguments_fit P frames h m i (take (operands_of i) f.operands) g st;
+      }
+
+  pub can_enter : entered P m f fs ≡ Some c → CanEnter P m f
+  can_enter e = by (method_at P m) refl e
+    where
+      by : (o : Option MethodInfo) → method_at P m ≡ o → option_and_then (λ i. if nat_le (operands_of i) (length f.operands) then Some (after_call i) else None) o ≡ Some c → CanEnter P m f
+      by None g e = absurd cc
+      by (Some i) g e = found i g (nat_le (operands_of i) (length f.operands)) refl e

@@ -1,20 +1,22 @@
 //! Remote calls and their answers (the project's own).
 
-ghost use Rattle.std.specs.Prelude.{◌≡◌, OnErr, OnOk, Option, reverse};
+ghost use Rattle.std.specs.Prelude.{◌≡◌, ◌<◌, ◌≤◌, Err, IfOk, IsOkUnless, OnErr, OnOk, Option, reverse};
 ghost use Rattle.nr_linked.specs.declared.program.kind.Kind.{Kind};
 ghost use Rattle.nr_linked.specs.Programs.{result_of};
-ghost use Rattle.nr_model.specs.Asks.{Answered, Asks, asked_args};
+ghost use Rattle.nr_model.specs.Asks.{Answered, Asks, Faulted, asked_args, fault_class};
 ghost use Rattle.nr_model.specs.Belonging.{IsResult};
 ghost use Rattle.nr_model.specs.Heaps.{Heap as Objects};
-ghost use Rattle.nr_model.specs.Outcomes.{OutputTooLong};
+ghost use Rattle.nr_model.specs.Outcomes.{OutputTooLong, max_cells};
+ghost use Rattle.nr_heap.specs.Contents.{object_of, reached};
 ghost use Rattle.nr_machine.specs.Executions.{IsAsking, Stands, state_in};
 ghost use Rattle.nr_machine.specs.Resumed.{AnswerPasses, Resumed};
 
 use super::Machine;
-use crate::answer::ResumeFault;
+use crate::answer::{ResumeFault, Turn};
 use crate::stack::operand_count;
-use nr_heap::Heap;
-use nr_model::Value;
+use nr_heap::{Heap, HeapFault};
+use nr_linked::{Base, ClassId, Kind};
+use nr_model::{Ref, Value};
 
 /// The bytes that a run may print.
 const MAX_PRINTED: usize = 0x10_0000;
@@ -66,5 +68,41 @@ impl<'p> Machine<'p> {
         let _goes_on = self.stack.go_on(program, value);
         self.steps += 1;
         Ok(())
+    }
+
+    /// Goes on after the remote call at which the machine stands, which met a fault: with a throw of a new
+    /// object of the class that a fault throws, whose name it gives. That is one step. `HeapFull` exactly
+    /// where the heap would have more than 1,048,576 cells, with their number, and `NoMemory` for want of
+    /// memory; then the machine still asks, and nothing changed.
+    pub fn resume_throw(&mut self, heap: &mut Heap, class: ClassId) -> Result<Ref, HeapFault>
+        requires asking { IsAsking self.old }
+        requires stands { (k : Option Kind) × Stands k heap.old.objects self.old }
+        requires class { class ≡ fault_class self.old.program }
+        ensures thrown { IfOk result (λ name. Resumed heap.old.objects self.old (Faulted name) self.new heap.new.objects) }
+        ensures stands { OnOk result ((k : Option Kind) → Stands k heap.old.objects self.old → Stands k heap.new.objects self.new) }
+
+        // It fails exactly where the heap would pass its limit, or for want of memory.
+        ensures full { let n = reached heap.old.objects (object_of self.old.program class) in
+            max_cells < n → result ≡ Err (HeapFault.HeapFull n) }
+        ensures other { reached heap.old.objects (object_of self.old.program class) ≤ max_cells → IsOkUnless result HeapFault.NoMemory }
+        ensures err { OnErr result ((self.new ≡ self.old) × (heap.new ≡ heap.old)) }
+    {
+        let program = self.program.program();
+        let _facts = program.tables();
+        let name = heap.new_object(program, class)?;
+        let _cells = heap.cells();
+        let method = self.stack.called_method(program);
+        let count = operand_count(program.method(method));
+        self.stack.drop_operands(program, count);
+        self.steps += 1;
+        let kind = Kind {
+            dims: 0,
+            base: Base::Object(class),
+        };
+        if self.stack.unwind(program, kind, name) {
+            return Ok(name);
+        }
+        self.last = Some(Turn::Thrown(name));
+        Ok(name)
     }
 }

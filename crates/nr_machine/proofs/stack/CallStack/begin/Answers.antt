@@ -1,11 +1,10 @@
-use Rattle.std.proofs.Common.{◌≡◌, ◌≤◌, ◌+◌, ◌++◌, ◌∷◌, [], ◌∙◌, length, List, ap, ap₂, arith, subst, subst₂, sym}
+use Rattle.std.proofs.Common.{◌≡◌, ◌+◌, ◌++◌, ◌∷◌, [], ◌∙◌, length, ap, ap₂, arith, subst₂, sym}
 use Rattle.std.specs.Prelude.{IsSomeAnd, reverse}
-use Rattle.nr_prog.specs.declared.body.whole.Body.{Body}
 use Rattle.nr_linked.specs.declared.program.tables.MethodInfo.{MethodInfo}
 use Rattle.nr_linked.specs.Programs.{method_at}
 use Rattle.nr_model.specs.Outcomes.{max_frames, max_value_slots}
 use Rattle.nr_model.specs.Steps.{first_frame, spread}
-use Rattle.nr_machine.specs.CallStacks.{CanBegin, IsStack, filled, frames_of}
+use Rattle.nr_machine.specs.CallStacks.{IsStack, filled, frames_of}
 use Rattle.nr_machine.proofs.Begins.{begun_stack, begun_frames}
 use Rattle.nr_machine.proofs.Calls.{neither}
 use Rattle.nr_machine.proofs.Enters.{entry_of}

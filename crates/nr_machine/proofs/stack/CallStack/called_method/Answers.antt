@@ -3,7 +3,6 @@ use Rattle.std.specs.Prelude.{Some, slice_get, slice_index_or}
 use Rattle.nr_linked.specs.declared.program.tables.MethodInfo.{MethodInfo}
 use Rattle.nr_linked.specs.declared.program.tables.Resolved.{Resolved}
 use Rattle.nr_linked.specs.declared.program.tables.Resolved.TheVariants as resolved
-use Rattle.nr_model.specs.States.{Frame}
 use Rattle.nr_machine.specs.declared.stack.Frame.{Frame as CodeFrame}
 use Rattle.nr_machine.specs.CallStacks.{IsCallOf, OnRunning, frames_of}
 use Rattle.nr_machine.proofs.Tops.{on_running, say_running}

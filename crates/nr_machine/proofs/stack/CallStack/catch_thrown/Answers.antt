@@ -1,6 +1,4 @@
-use Rattle.std.proofs.Common.{◌≡◌, ◌∷◌, [], ◌++◌}
 use Rattle.nr_model.specs.declared.value.Value.TheVariants.{Ref}
-use Rattle.nr_machine.specs.declared.stack.Frame.{Frame as CodeFrame}
 use Rattle.nr_machine.specs.CallStacks.{frames_of}
 use Rattle.nr_machine.proofs.Unwinds.{stands, room, handler_stack, caught_is, missed_is}
 use Rattle.nr_machine.proofs.stack.CallStack.catch_thrown.Goals as goal

@@ -1,10 +1,8 @@
-use Rattle.std.proofs.Common.{◌≡◌, ◌+◌, ◌-◌, ◌++◌, ◌∷◌, [], ◌∙◌, length, ap, ap₂, arith, sym, subst, take}
-use Rattle.nr_linked.specs.Programs.{method_at}
+use Rattle.std.proofs.Common.{◌≡◌, ◌+◌, ◌-◌, ◌∙◌, length, ap, arith, sym, subst, take}
 use Rattle.nr_machine.specs.declared.stack.Frame.{Frame as CodeFrame}
 use Rattle.nr_machine.specs.CallStacks.{IsStack, OnRunning, frames_of, slots_of}
 use Rattle.nr_machine.proofs.Enters.{slots_of_method}
 use Rattle.nr_machine.proofs.Leaves.{slots_below, stays_stack, dropped}
-use Rattle.nr_machine.proofs.Windows.{below}
 use Rattle.nr_machine.proofs.stack.CallStack.drop_running.Goals as goal
 
 pub overflow_sub-len : goal.overflow_sub-len

@@ -1,14 +1,11 @@
-use Rattle.std.proofs.Common.{◌≡◌, ◌≤◌, ◌<◌, ◌+◌, ◌-◌, ◌++◌, ◌∷◌, [], ◌∙◌, length, List, true, false, ap, ap₂, arith, rules, sym, subst, subst₂, refl, take, drop, inl, inr}
+use Rattle.std.proofs.Common.{◌≡◌, ◌≤◌, ◌<◌, ◌+◌, ◌-◌, ◌++◌, ◌∷◌, [], ◌∙◌, length, ap, ap₂, arith, sym, subst, subst₂, refl, take, drop}
 use Rattle.std.specs.Prelude.{◌⊎◌, Some}
-use Rattle.nr_linked.specs.declared.program.tables.ProgramTables.{ProgramTables}
 use Rattle.nr_linked.specs.declared.program.tables.MethodInfo.{MethodInfo}
-use Rattle.nr_linked.specs.Programs.{method_at}
-use Rattle.nr_model.specs.CallRules.{operands_of}
-use Rattle.nr_model.specs.Outcomes.{is_too_deep, max_frames, max_value_slots}
-use Rattle.nr_model.specs.States.{Frame, Control, Running}
+use Rattle.nr_model.specs.Outcomes.{max_frames, max_value_slots}
+use Rattle.nr_model.specs.States.{Running}
 use Rattle.nr_model.specs.Steps.{entered, spread}
 use Rattle.nr_machine.specs.declared.stack.Frame.{Frame as CodeFrame}
-use Rattle.nr_machine.specs.CallStacks.{CanEnter, IsStack, OnRunning, filled, frames_of, slots_of}
+use Rattle.nr_machine.specs.CallStacks.{CanEnter, IsStack, filled, frames_of}
 use Rattle.nr_machine.proofs.Tops.{count, on_running, say_running, sized, placed}
 use Rattle.nr_machine.proofs.Enters.{call_is, entry_of}
 use Rattle.nr_machine.proofs.Pushes.{pushed}

@@ -1,5 +1,3 @@
-use Rattle.std.specs.Prelude.{Option}
-use Rattle.nr_model.specs.declared.value.Value.{Value}
 use Rattle.nr_model.specs.States.{Returned, Running}
 use Rattle.nr_machine.specs.CallStacks.{frames_of}
 use Rattle.nr_machine.proofs.Gives.{can_below, given_above}

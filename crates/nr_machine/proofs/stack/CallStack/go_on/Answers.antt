@@ -1,5 +1,5 @@
-use Rattle.std.proofs.Common.{◌≡◌, ◌<◌, ◌+◌, ◌++◌, ◌∷◌, [], ◌∙◌, length, refl, sym, ap, subst, arith}
-use Rattle.std.specs.Prelude.{Option, Some, None}
+use Rattle.std.proofs.Common.{◌≡◌, ◌++◌, ◌∷◌, [], ◌∙◌, length, refl, sym, ap, subst, arith}
+use Rattle.std.specs.Prelude.{Option}
 use Rattle.nr_model.specs.declared.value.Value.{Value}
 use Rattle.nr_model.specs.Steps.{with_result}
 use Rattle.nr_machine.specs.declared.stack.Frame.{Frame as CodeFrame}

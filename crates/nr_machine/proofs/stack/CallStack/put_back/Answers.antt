@@ -1,7 +1,6 @@
-use Rattle.std.proofs.Common.{◌≡◌, ◌≤◌, ◌+◌, ◌-◌, ◌++◌, ◌∷◌, [], ◌∙◌, length, refl, ap, ap₂, arith, sym, subst, subst₂, set}
-use Rattle.std.specs.Prelude.{IsSomeAnd, Some}
+use Rattle.std.proofs.Common.{◌≡◌, ◌≤◌, ◌+◌, ◌-◌, ◌++◌, ◌∷◌, [], length, refl, ap, arith, sym, subst, subst₂, set}
+use Rattle.std.specs.Prelude.{IsSomeAnd}
 use Rattle.nr_linked.specs.declared.program.tables.MethodInfo.{MethodInfo}
-use Rattle.nr_linked.specs.Programs.{method_at}
 use Rattle.nr_machine.specs.declared.stack.Frame.{Frame as CodeFrame}
 use Rattle.nr_machine.specs.CallStacks.{IsStack, OnRunning, frames_of}
 use Rattle.nr_machine.proofs.Tops.{count}

@@ -1,6 +1,5 @@
-use Rattle.std.proofs.Common.{◌≡◌, ◌∷◌, [], pos, ap, ap₂, get_or, refl, sym, ◌∙◌, subst, length, take, drop, ◌++◌, ◌+◌}
-use Rattle.nr_model.specs.declared.value.Value.{Value}
-use Rattle.nr_model.specs.declared.value.Value.TheVariants.{Int, Long, Null, Ref}
+use Rattle.std.proofs.Common.{◌∷◌, [], pos, ap, get_or, sym, ◌∙◌, take, ◌+◌}
+use Rattle.nr_model.specs.declared.value.Value.TheVariants.{Int, Long, Null}
 use Rattle.nr_model.specs.Steps.{spread}
 use Rattle.nr_machine.proofs.Spreads.{one_within, one_placed, two_within, two_placed, spread_one, kept}
 use Rattle.nr_machine.proofs.stack.arguments.place_arguments.Goals as goal

@@ -1,6 +1,5 @@
-use Rattle.std.proofs.Common.{◌≡◌, ◌+◌, ◌-◌, ◌++◌, ◌∙◌, ap, arith, length, List, replicate, subst, sym, take, drop}
+use Rattle.std.proofs.Common.{◌≡◌, ◌+◌, ◌-◌, ◌++◌, ◌∙◌, ap, arith, length, List, replicate, subst, take, drop}
 use Rattle.std.specs.Prelude.{IsOk}
-use Rattle.std.proofs.lemmas.List.{length-append, length-replicate}
 use Rattle.nr_model.specs.declared.value.Value.{Value}
 use Rattle.nr_model.specs.declared.value.Value.TheVariants.{Null}
 use Rattle.nr_model.specs.Steps.{spread}

@@ -1,4 +1,4 @@
-use Rattle.std.proofs.Common.{◌≡◌, ◌∙◌, arith, sym}
+use Rattle.std.proofs.Common.{◌∙◌, arith, sym}
 use Rattle.nr_machine.proofs.Catching.{handler_on, handler_end}
 use Rattle.nr_machine.proofs.stack.handlers.first_handler.Goals as goal
 

@@ -1,13 +1,12 @@
-use Rattle.std.proofs.Common.{◌≡◌, ◌<◌, ◌∙◌, length, List, ap, ap₂, refl, sym, subst}
-use Rattle.std.specs.Prelude.{Option, Some, ◌==◌, position, slice_get, slice_index_or}
+use Rattle.std.proofs.Common.{◌≡◌, ◌∙◌, ap, ap₂, refl, sym}
+use Rattle.std.specs.Prelude.{Some, ◌==◌, position, slice_get, slice_index_or}
 use Rattle.std.proofs.lemmas.Option.{slice_get_read}
 use Rattle.nr_prog.specs.declared.body.instruction.Instr.{Instr}
 use Rattle.nr_prog.specs.declared.body.whole.Body.{Body}
 use Rattle.nr_linked.specs.declared.program.tables.MethodInfo.{MethodInfo}
 use Rattle.nr_linked.specs.Programs.{method_at}
 use Rattle.nr_model.specs.Steps.{first_handler, handler_at}
-use Rattle.nr_machine.specs.CallStacks.{IsPlaced, offset_at}
-use Rattle.nr_machine.proofs.Calls.{some_both}
+use Rattle.nr_machine.specs.CallStacks.{offset_at}
 use Rattle.nr_machine.proofs.Catching.{handlers_are, handler_place, placed_within}
 use Rattle.nr_machine.proofs.Places.{offset_is}
 use Rattle.nr_machine.proofs.stack.handlers.handler_of.Goals as goal
