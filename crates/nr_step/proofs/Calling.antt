@@ -4,16 +4,19 @@ use Rattle.std.specs.FinMap.{get}
 use Rattle.nr_optable.specs.declared.table.Family.TheVariants.{F32}
 use Rattle.nr_optable.specs.Rows.{all_rows}
 use Rattle.nr_prog.specs.declared.body.instruction.Instr.{Instr}
-use Rattle.nr_linked.specs.declared.program.built_in.BuiltIn.TheVariants.{AbstractMethodError, NullPointerException}
+use Rattle.nr_linked.specs.declared.program.built_in.BuiltIn.TheVariants.{IncompatibleClassChangeError, NullPointerException}
+use Rattle.nr_linked.specs.declared.program.built_in.BuiltIn.{BuiltIn}
 use Rattle.nr_linked.specs.declared.program.kind.Kind.{Kind}
 use Rattle.nr_linked.specs.declared.program.tables.MethodInfo.{MethodInfo}
 use Rattle.nr_linked.specs.declared.program.tables.ProgramTables.{ProgramTables}
 use Rattle.nr_linked.specs.declared.program.tables.Resolved.{Resolved}
 use Rattle.nr_linked.specs.declared.program.tables.Resolved.TheVariants as resolved
+use Rattle.nr_linked.specs.Kinds.{class_kind}
 use Rattle.nr_linked.specs.Programs.{method_at}
+use Rattle.nr_linked.specs.Subtypes.{is_sub}
 use Rattle.nr_model.specs.declared.value.Value.{Value}
-use Rattle.nr_model.specs.Heaps.{Heap, Obj, on_some}
-use Rattle.nr_model.specs.CallRules.{call_selected, invoke_virtual, on_receiver, selected_for}
+use Rattle.nr_model.specs.Heaps.{Heap, Obj}
+use Rattle.nr_model.specs.CallRules.{call_selected, on_receiver, selected_for}
 use Rattle.nr_model.specs.Rules.{invoke_rule}
 use Rattle.nr_model.specs.Scripts.{AskKind, Call, Called, Ending, OnObject, Runs, Script, Within}
 use Rattle.nr_model.specs.Throws.{not_null, onward, throw_new, with_found}
@@ -74,48 +77,49 @@ to_method P own found k w u e r = absurd r
 pub method_found : (P : ProgramTables) (own : MethodInfo) (i : Instr) (found : Resolved) (w : Within) (room : ℕ) → IsRowOf 182 i.row → CanDo P own i found w room → MethodFound P found
 method_found P own i found w room r can = to_method P own found (onward can.next) w can.left can.ending (subst (λ sc. Runs sc w can.ending can.left) (virtual_is P own i found r can.next) can.runs)
 
-abbrev pub selects : ProgramTables → ℕ → ℕ → Script
-selects P m d = by_kind d (λ kind. call_selected P (selected_for P m kind))
+abbrev pub by_selection : ProgramTables → ℕ → Kind → Script
+by_selection P m kind = call_selected P (selected_for P m kind)
 
-pub virtual_rule : (P : ProgramTables) (own : MethodInfo) (i : Instr) (found : Resolved) (m c : ℕ) (info : MethodInfo) → IsRowOf 182 i.row → found ≡ resolved.Method m c → method_at P m ≡ Some info
-    → (n : Option ℕ) → doing P own i found n ≡ not_null P (length info.params) (selects P m (length info.params))
+virtual_rule : (P : ProgramTables) (own : MethodInfo) (i : Instr) (found : Resolved) (m c : ℕ) (info : MethodInfo) → IsRowOf 182 i.row → found ≡ resolved.Method m c → method_at P m ≡ Some info
+    → (n : Option ℕ) → doing P own i found n ≡ not_null P (length info.params) (by_kind (length info.params) (by_selection P m))
 virtual_rule P own i found m c info r f q = λ n.
-    virtual_is P own i found r n ∙ ap (λ f. invoke_rule P own 182 f (onward n)) f ∙ ap (λ o. with_found o (λ i. on_receiver P i (λ kind. call_selected P (selected_for P m kind)))) q
+    virtual_is P own i found r n ∙ ap (λ f. invoke_rule P own 182 f (onward n)) f ∙ ap (λ o. with_found o (λ i. on_receiver P i (by_selection P m))) q
 
-pub receiver_asks : (P : ProgramTables) (m d : ℕ) (h : Heap) (ls vs : List Value) (e : Ending) (u : Within) → Runs (not_null P d (selects P m d)) (view h ls vs) e u → ReferenceAt vs d
-receiver_asks P m d h ls vs e u r = asks_null d (λ null. cond null (throw_new P NullPointerException) (selects P m d)) h ls vs e u r
+-- ---- of a receiver, by its kind
 
-pub receiver_there : (P : ProgramTables) (m d a : ℕ) (h : Heap) (ls vs : List Value) (e : Ending) (u : Within) → slice_get vs d ≡ Some (reference_to (Some a)) → Runs (not_null P d (selects P m d)) (view h ls vs) e u
+pub receiver_asks : (P : ProgramTables) (d : ℕ) (k : Kind → Script) (h : Heap) (ls vs : List Value) (e : Ending) (u : Within) → Runs (not_null P d (by_kind d k)) (view h ls vs) e u → ReferenceAt vs d
+receiver_asks P d k h ls vs e u r = asks_null d (λ null. cond null (throw_new P NullPointerException) (by_kind d k)) h ls vs e u r
+
+pub receiver_there : (P : ProgramTables) (d a : ℕ) (k : Kind → Script) (h : Heap) (ls vs : List Value) (e : Ending) (u : Within) → slice_get vs d ≡ Some (reference_to (Some a)) → Runs (not_null P d (by_kind d k)) (view h ls vs) e u
     → IsSomeAnd (get h a) (λ o. Unit {0})
-receiver_there P m d a h ls vs e u top r =
-    let x = subst (λ s. IsSomeAnd s (λ v. OnObject h v (λ a o. Runs (call_selected P (selected_for P m o.kind)) (view h ls vs) e u))) top (name_from P d a (selects P m d) h ls vs e u top r) in
-    some_map (get h a) (λ o. Runs (call_selected P (selected_for P m o.kind)) (view h ls vs) e u) (λ o. Unit {0}) x (λ o r. tt)
+receiver_there P d a k h ls vs e u top r =
+    let x = subst (λ s. IsSomeAnd s (λ v. OnObject h v (λ a o. Runs (k o.kind) (view h ls vs) e u))) top (name_from P d a (by_kind d k) h ls vs e u top r) in
+    some_map (get h a) (λ o. Runs (k o.kind) (view h ls vs) e u) (λ o. Unit {0}) x (λ o r. tt)
 
-pub receiver_null : (flow : Flow) (P : ProgramTables) (S : Doing) (m d : ℕ) (h j : Heap) (ls vs : List Value) (told : Told) → slice_get vs d ≡ Some (reference_to None) → ((n : Option ℕ) → S n ≡ not_null P d (selects P m d))
+pub receiver_null : (flow : Flow) (P : ProgramTables) (S : Doing) (d : ℕ) (k : Kind → Script) (h j : Heap) (ls vs : List Value) (told : Told) → slice_get vs d ≡ Some (reference_to None) → ((n : Option ℕ) → S n ≡ not_null P d (by_kind d k))
     → ((w : Within) → w.heap ≡ h → ThrewNew flow (throw_new P NullPointerException) w told j) → Went flow P S (view h ls vs) told (view j ls vs)
-receiver_null flow P S m d h j ls vs told top same x =
-    went_by flow P S (λ n. not_null P d (selects P m d)) (view h ls vs) told (view j ls vs) same
-    (went_thrown flow P (λ n. not_null P d (selects P m d)) (throw_new P NullPointerException) (view h ls vs) (view h ls vs) told j refl refl
-    (λ n e u r. null_to P d (selects P m d) h ls vs e u top r) (λ n e u r. null_from P d (selects P m d) h ls vs e u top r) (x (view h ls vs) refl))
+receiver_null flow P S d k h j ls vs told top same x =
+    went_by flow P S (λ n. not_null P d (by_kind d k)) (view h ls vs) told (view j ls vs) same
+    (went_thrown flow P (λ n. not_null P d (by_kind d k)) (throw_new P NullPointerException) (view h ls vs) (view h ls vs) told j refl refl
+    (λ n e u r. null_to P d (by_kind d k) h ls vs e u top r) (λ n e u r. null_from P d (by_kind d k) h ls vs e u top r) (x (view h ls vs) refl))
 
-pub none_selected : (flow : Flow) (P : ProgramTables) (S : Doing) (m d a : ℕ) (kd : Kind) (h j : Heap) (ls vs : List Value) (told : Told) → slice_get vs d ≡ Some (reference_to (Some a)) → IsSomeAnd (get h a) (λ o. o.kind ≡ kd)
-    → selected_for P m kd ≡ None → ((n : Option ℕ) → S n ≡ not_null P d (selects P m d)) → ((w : Within) → w.heap ≡ h → ThrewNew flow (throw_new P AbstractMethodError) w told j) → Went flow P S (view h ls vs) told (view j ls vs)
-none_selected flow P S m d a kd h j ls vs told top is none same x =
-    let q : call_selected P (selected_for P m kd) ≡ throw_new P AbstractMethodError = ap (call_selected P) none in
-    let k : Kind → Script = λ kind. call_selected P (selected_for P m kind) in
-    went_by flow P S (λ n. not_null P d (selects P m d)) (view h ls vs) told (view j ls vs) same
-    (went_thrown flow P (λ n. not_null P d (selects P m d)) (throw_new P AbstractMethodError) (view h ls vs) (view h ls vs) told j refl refl
-    (λ n e u r. name_to P d a (selects P m d) h ls vs e u top (kind_to d a kd k h ls vs e u top is (subst (λ sc. Runs sc (view h ls vs) e u) (sym q) r)))
-    (λ n e u r. subst (λ sc. Runs sc (view h ls vs) e u) q (kind_from d a kd k h ls vs e u top is (name_from P d a (selects P m d) h ls vs e u top r)))
+-- where the kind leads to a throw
+pub kind_thrown : (flow : Flow) (P : ProgramTables) (S : Doing) (b : BuiltIn) (d a : ℕ) (kd : Kind) (k : Kind → Script) (h j : Heap) (ls vs : List Value) (told : Told) → slice_get vs d ≡ Some (reference_to (Some a))
+    → IsSomeAnd (get h a) (λ o. o.kind ≡ kd) → k kd ≡ throw_new P b → ((n : Option ℕ) → S n ≡ not_null P d (by_kind d k)) → ((w : Within) → w.heap ≡ h → ThrewNew flow (throw_new P b) w told j) → Went flow P S (view h ls vs) told (view j ls vs)
+kind_thrown flow P S b d a kd k h j ls vs told top is q same x =
+    went_by flow P S (λ n. not_null P d (by_kind d k)) (view h ls vs) told (view j ls vs) same
+    (went_thrown flow P (λ n. not_null P d (by_kind d k)) (throw_new P b) (view h ls vs) (view h ls vs) told j refl refl
+    (λ n e u r. name_to P d a (by_kind d k) h ls vs e u top (kind_to d a kd k h ls vs e u top is (subst (λ sc. Runs sc (view h ls vs) e u) (sym q) r)))
+    (λ n e u r. subst (λ sc. Runs sc (view h ls vs) e u) q (kind_from d a kd k h ls vs e u top is (name_from P d a (by_kind d k) h ls vs e u top r)))
     (x (view h ls vs) refl))
 
-pub called : (P : ProgramTables) (S : Doing) (m d a s : ℕ) (kd : Kind) (h : Heap) (ls vs : List Value) → slice_get vs d ≡ Some (reference_to (Some a)) → IsSomeAnd (get h a) (λ o. o.kind ≡ kd)
-    → selected_for P m kd ≡ Some s → ((n : Option ℕ) → S n ≡ not_null P d (selects P m d)) → (n : Option ℕ) → Runs (S n) (view h ls vs) (Called s) (view h ls vs)
-called P S m d a s kd h ls vs top is found same n =
-    let k : Kind → Script = λ kind. call_selected P (selected_for P m kind) in
+-- where it leads to a call
+pub kind_called : (P : ProgramTables) (S : Doing) (d a s : ℕ) (kd : Kind) (k : Kind → Script) (h : Heap) (ls vs : List Value) → slice_get vs d ≡ Some (reference_to (Some a)) → IsSomeAnd (get h a) (λ o. o.kind ≡ kd)
+    → k kd ≡ Call s → ((n : Option ℕ) → S n ≡ not_null P d (by_kind d k)) → (n : Option ℕ) → Runs (S n) (view h ls vs) (Called s) (view h ls vs)
+kind_called P S d a s kd k h ls vs top is q same n =
     let w = view h ls vs in
     subst (λ sc. Runs sc w (Called s) w) (sym (same n))
-    (name_to P d a (selects P m d) h ls vs (Called s) w top (kind_to d a kd k h ls vs (Called s) w top is (subst (λ o. Runs (call_selected P o) w (Called s) w) (sym found) (refl, refl))))
+    (name_to P d a (by_kind d k) h ls vs (Called s) w top (kind_to d a kd k h ls vs (Called s) w top is (subst (λ sc. Runs sc w (Called s) w) (sym q) (refl, refl))))
 
 pub one_method : (found : Resolved) (m n c d : ℕ) → found ≡ resolved.Method m c → found ≡ resolved.Method n d → m ≡ n
 one_method found m n c d p q = cc
@@ -125,5 +129,41 @@ no_none o x p q = cc
 
 -- with the depth of the receiver as the code has it
 pub virtual_at : (P : ProgramTables) (own : MethodInfo) (i : Instr) (found : Resolved) (m c d : ℕ) (info : MethodInfo) → IsRowOf 182 i.row → found ≡ resolved.Method m c → method_at P m ≡ Some info → d ≡ length info.params
-    → (n : Option ℕ) → doing P own i found n ≡ not_null P d (selects P m d)
-virtual_at P own i found m c d info r f q e = λ n. virtual_rule P own i found m c info r f q n ∙ ap (λ d. not_null P d (selects P m d)) (sym e)
+    → (n : Option ℕ) → doing P own i found n ≡ not_null P d (by_kind d (by_selection P m))
+virtual_at P own i found m c d info r f q e = λ n. virtual_rule P own i found m c info r f q n ∙ ap (λ d. not_null P d (by_kind d (by_selection P m))) (sym e)
+
+-- ---- invokeinterface
+
+interface_calls : AllOf (λ c. c == 185) F32
+unfolding all_rows
+interface_calls = refl
+
+interface_is : (P : ProgramTables) (own : MethodInfo) (i : Instr) (found : Resolved) → IsRowOf 185 i.row → (n : Option ℕ) → doing P own i found n ≡ invoke_rule P own 185 found (onward n)
+interface_is P own i found r n = rule_by (λ c. c == 185) F32 interface_calls P own i found 185 r refl n ∙ ap (λ c. invoke_rule P own c found (onward n)) r.code
+
+abbrev pub by_interface : ProgramTables → ℕ → ℕ → Kind → Script
+by_interface P m c kind = cond (is_sub P kind (class_kind c)) (by_selection P m kind) (throw_new P IncompatibleClassChangeError)
+
+to_interface : (P : ProgramTables) (own : MethodInfo) (found : Resolved) (k : Script) (w u : Within) (e : Ending) → Runs (invoke_rule P own 185 found k) w e u → MethodFound P found
+to_interface P own (resolved.Method m c) k w u e r = let x = go (method_at P m) r in record { method = m; named = c; is = refl; info = x.0; there = x.1 }
+  where
+    go : (o : Option MethodInfo) → Runs (with_found o (λ i. on_receiver P i (by_interface P m c))) w e u → (i : MethodInfo) × (o ≡ Some i)
+    go None r = absurd r
+    go (Some i) r = (i, refl)
+to_interface P own found k w u e r = absurd r
+
+pub interface_found : (P : ProgramTables) (own : MethodInfo) (i : Instr) (found : Resolved) (w : Within) (room : ℕ) → IsRowOf 185 i.row → CanDo P own i found w room → MethodFound P found
+interface_found P own i found w room r can = to_interface P own found (onward can.next) w can.left can.ending (subst (λ sc. Runs sc w can.ending can.left) (interface_is P own i found r can.next) can.runs)
+
+pub interface_at : (P : ProgramTables) (own : MethodInfo) (i : Instr) (found : Resolved) (m c d : ℕ) (info : MethodInfo) → IsRowOf 185 i.row → found ≡ resolved.Method m c → method_at P m ≡ Some info → d ≡ length info.params
+    → (n : Option ℕ) → doing P own i found n ≡ not_null P d (by_kind d (by_interface P m c))
+interface_at P own i found m c d info r f q e = λ n.
+    interface_is P own i found r n ∙ ap (λ f. invoke_rule P own 185 f (onward n)) f ∙ ap (λ o. with_found o (λ i. on_receiver P i (by_interface P m c))) q
+    ∙ ap (λ d. not_null P d (by_kind d (by_interface P m c))) (sym e)
+
+-- where the receiver has the interface, and where it hasn't
+pub with_interface : (P : ProgramTables) (m c : ℕ) (kd : Kind) → is_sub P kd (class_kind c) ≡ true → by_interface P m c kd ≡ by_selection P m kd
+with_interface P m c kd t = ap (λ b. cond b (by_selection P m kd) (throw_new P IncompatibleClassChangeError)) t
+
+pub without_interface : (P : ProgramTables) (m c : ℕ) (kd : Kind) → is_sub P kd (class_kind c) ≡ false → by_interface P m c kd ≡ throw_new P IncompatibleClassChangeError
+without_interface P m c kd t = ap (λ b. cond b (by_selection P m kd) (throw_new P IncompatibleClassChangeError)) t

@@ -66,3 +66,43 @@ pub fn invokevirtual(
     told.number = selected;
     Flow::Invoke
 }
+
+/// invokeinterface.
+#[inline(always)]
+pub fn invokeinterface(
+    p: &Program,
+    i: &Instr,
+    found: &Resolved,
+    heap: &mut Heap,
+    stack: &[Value],
+    depth: usize,
+    told: &mut Told,
+) -> Flow
+    requires row { IsRowOf 185 i.now.row }
+    requires room { depth ≤ length stack.now }
+    requires can { CanFind p.now i.now found.now heap.old.objects stack.now depth }
+    ensures { Finds result p.now i.now found.now heap.old.objects stack.now depth told.new heap.new.objects stack.now depth }
+{
+    let Resolved::Method(method, named) = found else {
+        unreachable!()
+    };
+    let Some(info) = p.method_at(*method) else {
+        unreachable!()
+    };
+    let Some(name) = reference_at(info.params.len(), stack, depth) else {
+        return throw_object(p, heap, BuiltIn::NullPointerException, told);
+    };
+    let kind = heap.kind_of(name);
+    let interface = Kind {
+        dims: 0,
+        base: Base::Object(*named),
+    };
+    if !p.is_sub(kind, interface) {
+        return throw_object(p, heap, BuiltIn::IncompatibleClassChangeError, told);
+    }
+    let Some(selected) = selected_for(p, *method, kind) else {
+        return throw_object(p, heap, BuiltIn::AbstractMethodError, told);
+    };
+    told.number = selected;
+    Flow::Invoke
+}

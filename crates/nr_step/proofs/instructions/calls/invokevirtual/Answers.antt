@@ -1,9 +1,11 @@
 use Rattle.std.proofs.Common.{◌∙◌, length, refl, sym, subst, ap}
 use Rattle.nr_linked.specs.Programs.{method_at}
+use Rattle.nr_linked.specs.declared.program.built_in.BuiltIn.TheVariants.{AbstractMethodError}
+use Rattle.nr_model.specs.CallRules.{call_selected}
 use Rattle.nr_model.specs.Scripts.{Runs}
 use Rattle.nr_step.specs.Instructions.{doing}
 use Rattle.nr_step.specs.Windows.{top_first, window}
-use Rattle.nr_step.proofs.Calling.{called, method_found, no_none, none_selected, one_method, receiver_asks, receiver_null, receiver_there, virtual_at}
+use Rattle.nr_step.proofs.Calling.{by_selection, method_found, kind_called, kind_thrown, no_none, one_method, receiver_asks, receiver_null, receiver_there, virtual_at}
 use Rattle.nr_step.proofs.instructions.calls.invokevirtual.Goals as goal
 
 pub unreachable-requires : goal.unreachable-requires
@@ -21,22 +23,22 @@ unreachable-requires-in_default-method_at c =
 pub reference_at-requires-clause-some : goal.reference_at-requires-clause-some
 reference_at-requires-clause-some c =
     let can = c.requires.can in
-    receiver_asks c.args.p.now c.in-Method.method c.len.result c.args.heap.now.objects can.1 (top_first c.args.stack.now c.args.depth) can.2.ending can.2.left (subst (λ sc. Runs sc (window c.args.heap.now.objects can.1 c.args.stack.now c.args.depth) can.2.ending can.2.left) (virtual_at c.args.p.now can.0 c.args.i.now c.args.found.now c.in-Method.method c.in-Method.field-1 c.len.result c.in-Some.info.now c.requires.row c.in-Method.is (sym c.in-Some.ensures) c.len.ensures can.2.next) can.2.runs)
+    receiver_asks c.args.p.now c.len.result (by_selection c.args.p.now c.in-Method.method) c.args.heap.now.objects can.1 (top_first c.args.stack.now c.args.depth) can.2.ending can.2.left (subst (λ sc. Runs sc (window c.args.heap.now.objects can.1 c.args.stack.now c.args.depth) can.2.ending can.2.left) (virtual_at c.args.p.now can.0 c.args.i.now c.args.found.now c.in-Method.method c.in-Method.field-1 c.len.result c.in-Some.info.now c.requires.row c.in-Method.is (sym c.in-Some.ensures) c.len.ensures can.2.next) can.2.runs)
 
 pub returns-in_default-reference_at : goal.returns-in_default-reference_at
 returns-in_default-reference_at c = λ own ls.
-    receiver_null c.throw_object.result c.args.p.now (doing c.args.p.now own c.args.i.now c.args.found.now) c.in-Method.method c.len.result c.args.heap.now.objects c.throw_object.new.heap.objects ls (top_first c.args.stack.now c.args.depth) c.throw_object.new.told c.in_default-reference_at.ensures (virtual_at c.args.p.now own c.args.i.now c.args.found.now c.in-Method.method c.in-Method.field-1 c.len.result c.in-Some.info.now c.requires.row c.in-Method.is (sym c.in-Some.ensures) c.len.ensures) c.throw_object.ensures
+    receiver_null c.throw_object.result c.args.p.now (doing c.args.p.now own c.args.i.now c.args.found.now) c.len.result (by_selection c.args.p.now c.in-Method.method) c.args.heap.now.objects c.throw_object.new.heap.objects ls (top_first c.args.stack.now c.args.depth) c.throw_object.new.told c.in_default-reference_at.ensures (virtual_at c.args.p.now own c.args.i.now c.args.found.now c.in-Method.method c.in-Method.field-1 c.len.result c.in-Some.info.now c.requires.row c.in-Method.is (sym c.in-Some.ensures) c.len.ensures) c.throw_object.ensures
 
 pub kind_of-requires : goal.kind_of-requires
 kind_of-requires c =
     let can = c.requires.can in
-    receiver_there c.args.p.now c.in-Method.method c.len.result c.in-Some-reference_at.name c.args.heap.now.objects can.1 (top_first c.args.stack.now c.args.depth) can.2.ending can.2.left c.in-Some-reference_at.ensures (subst (λ sc. Runs sc (window c.args.heap.now.objects can.1 c.args.stack.now c.args.depth) can.2.ending can.2.left) (virtual_at c.args.p.now can.0 c.args.i.now c.args.found.now c.in-Method.method c.in-Method.field-1 c.len.result c.in-Some.info.now c.requires.row c.in-Method.is (sym c.in-Some.ensures) c.len.ensures can.2.next) can.2.runs)
+    receiver_there c.args.p.now c.len.result c.in-Some-reference_at.name (by_selection c.args.p.now c.in-Method.method) c.args.heap.now.objects can.1 (top_first c.args.stack.now c.args.depth) can.2.ending can.2.left c.in-Some-reference_at.ensures (subst (λ sc. Runs sc (window c.args.heap.now.objects can.1 c.args.stack.now c.args.depth) can.2.ending can.2.left) (virtual_at c.args.p.now can.0 c.args.i.now c.args.found.now c.in-Method.method c.in-Method.field-1 c.len.result c.in-Some.info.now c.requires.row c.in-Method.is (sym c.in-Some.ensures) c.len.ensures can.2.next) can.2.runs)
 
 pub returns-in_default-selected_for : goal.returns-in_default-selected_for
 returns-in_default-selected_for c = λ own ls.
-    none_selected c.throw_object-in_default-selected_for.result c.args.p.now (doing c.args.p.now own c.args.i.now c.args.found.now) c.in-Method.method c.len.result c.in-Some-reference_at.name c.kind_of.result c.args.heap.now.objects c.throw_object-in_default-selected_for.new.heap.objects ls (top_first c.args.stack.now c.args.depth) c.throw_object-in_default-selected_for.new.told
-    c.in-Some-reference_at.ensures c.kind_of.ensures (sym c.in_default-selected_for.ensures) (virtual_at c.args.p.now own c.args.i.now c.args.found.now c.in-Method.method c.in-Method.field-1 c.len.result c.in-Some.info.now c.requires.row c.in-Method.is (sym c.in-Some.ensures) c.len.ensures) c.throw_object-in_default-selected_for.ensures
+    kind_thrown c.throw_object-in_default-selected_for.result c.args.p.now (doing c.args.p.now own c.args.i.now c.args.found.now) AbstractMethodError c.len.result c.in-Some-reference_at.name c.kind_of.result (by_selection c.args.p.now c.in-Method.method) c.args.heap.now.objects c.throw_object-in_default-selected_for.new.heap.objects ls (top_first c.args.stack.now c.args.depth) c.throw_object-in_default-selected_for.new.told
+    c.in-Some-reference_at.ensures c.kind_of.ensures (ap (call_selected c.args.p.now) (sym c.in_default-selected_for.ensures)) (virtual_at c.args.p.now own c.args.i.now c.args.found.now c.in-Method.method c.in-Method.field-1 c.len.result c.in-Some.info.now c.requires.row c.in-Method.is (sym c.in-Some.ensures) c.len.ensures) c.throw_object-in_default-selected_for.ensures
 
 pub returns : goal.returns
 returns c = λ own ls.
-    (refl, called c.args.p.now (doing c.args.p.now own c.args.i.now c.args.found.now) c.in-Method.method c.len.result c.in-Some-reference_at.name c.in-Some-selected_for.selected c.kind_of.result c.args.heap.now.objects ls (top_first c.args.stack.now c.args.depth) c.in-Some-reference_at.ensures c.kind_of.ensures (sym c.in-Some-selected_for.ensures) (virtual_at c.args.p.now own c.args.i.now c.args.found.now c.in-Method.method c.in-Method.field-1 c.len.result c.in-Some.info.now c.requires.row c.in-Method.is (sym c.in-Some.ensures) c.len.ensures))
+    (refl, kind_called c.args.p.now (doing c.args.p.now own c.args.i.now c.args.found.now) c.len.result c.in-Some-reference_at.name c.in-Some-selected_for.selected c.kind_of.result (by_selection c.args.p.now c.in-Method.method) c.args.heap.now.objects ls (top_first c.args.stack.now c.args.depth) c.in-Some-reference_at.ensures c.kind_of.ensures (ap (call_selected c.args.p.now) (sym c.in-Some-selected_for.ensures)) (virtual_at c.args.p.now own c.args.i.now c.args.found.now c.in-Method.method c.in-Method.field-1 c.len.result c.in-Some.info.now c.requires.row c.in-Method.is (sym c.in-Some.ensures) c.len.ensures))
