@@ -21,3 +21,4 @@ pub mod Marks
 pub mod Hiding
 pub mod Layouts
 pub mod Places
+pub mod Once

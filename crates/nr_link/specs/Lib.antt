@@ -11,3 +11,4 @@ pub mod Finals
 pub mod Marks
 pub mod Laid
 pub mod Around
+pub mod Leading

@@ -26,6 +26,7 @@ mod names;
 mod outline;
 mod service;
 mod sites;
+mod superinterfaces;
 mod tables;
 
 pub use mains::find_main;
