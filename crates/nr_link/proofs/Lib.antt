@@ -24,3 +24,4 @@ pub mod Places
 pub mod AroundMethods
 pub mod Finishing
 pub mod LinkedPrograms
+pub mod Once

@@ -4,6 +4,7 @@ use Rattle.std.specs.Prelude.{Option, Some, None, IsTrue, slice_get}
 use Rattle.std.specs.List.{flat_map}
 use Rattle.std.specs.Option.{option_map_or, option_or, option_to_list}
 use Rattle.std.proofs.lemmas.Bool.{false_from_ne_true}
+use Rattle.std.proofs.lemmas.Grind.{flat_map-append}
 use Rattle.std.proofs.lemmas.List.{drop_all}
 use Rattle.std.proofs.lemmas.Option.{get_or_from_slice_get, slice_get_within}
 use Rattle.nr_linked.specs.declared.program.tables.ClassInfo.{ClassInfo}
@@ -15,6 +16,7 @@ use Rattle.nr_linked.proofs.Elements.{get_either, passing}
 use Rattle.nr_linked.proofs.Ascents.{step_of, super_step}
 use Rattle.nr_linkrules.specs.Reaches.{HasSteps, reaches}
 use Rattle.nr_link.specs.Barren.{IsBarren}
+use Rattle.nr_link.specs.Leading.{LeadAlike}
 use Rattle.nr_linkrules.proofs.Reached.{reaches_above}
 
 -- ---- classes above which nothing is found
@@ -92,18 +94,24 @@ module _ (P : ProgramTables) (test : ℕ → Bool) where
       ap (λ b. cond b (Some c) (find test (flat_map (field_classes P n) (interfaces_of P c ++ option_to_list (super_of P c))))) (none c itself)
       ∙ none_flat n (interfaces_of P c ++ option_to_list (super_of P c)) (λ k s at. none_found n s (λ d above. none d (further (ups_step c k s at) above)))
 
+  -- from some classes and from those behind them
+  parted : (n : ℕ) (cs ds : List ℕ) → find test (flat_map (field_classes P n) (cs ++ ds)) ≡ option_or (find test (flat_map (field_classes P n) cs)) (find test (flat_map (field_classes P n) ds))
+  parted n cs ds = ap (find test) (flat_map-append (field_classes P n) cs ds) ∙ find_both test (flat_map (field_classes P n) cs) (flat_map (field_classes P n) ds)
+
   -- what is left to look at: the interfaces from place i on, then the superclass
   pub record Left (left c : ℕ) (interfaces : List ℕ) (i : ℕ) : Type 0 where
     pub found : find test (flat_map (field_classes P (left - 1)) (drop i interfaces ++ option_to_list (super_of P c))) ≡ find test (field_classes P left c)
     pub more : 0 < left
 
-  pub begins : (left c : ℕ) (interfaces : List ℕ) → interfaces ≡ interfaces_of P c → 0 < left → test c ≡ false → Left left c interfaces 0
+  pub begins : (left c : ℕ) (interfaces : List ℕ) → LeadAlike interfaces (interfaces_of P c) → 0 < left → test c ≡ false → Left left c interfaces 0
   begins zero c interfaces e lt none = absurd (omega (arith, lt))
   begins (suc n) c interfaces e lt none =
       let less : suc n - 1 ≡ n = omega arith in
       record {
         found = ap (λ m. find test (flat_map (field_classes P m) (interfaces ++ option_to_list (super_of P c)))) less
-            ∙ ap (λ is. find test (flat_map (field_classes P n) (is ++ option_to_list (super_of P c)))) e
+            ∙ parted n interfaces (option_to_list (super_of P c))
+            ∙ ap (λ o. option_or o (find test (flat_map (field_classes P n) (option_to_list (super_of P c))))) (e (field_classes P n) test)
+            ∙ sym (parted n (interfaces_of P c) (option_to_list (super_of P c)))
             ∙ sym (ap (λ b. cond b (Some c) (find test (flat_map (field_classes P n) (interfaces_of P c ++ option_to_list (super_of P c))))) none);
         more = lt;
       }

@@ -12,3 +12,4 @@ pub mod Marks
 pub mod Laid
 pub mod Around
 pub mod Completing
+pub mod Leading

@@ -12,7 +12,7 @@ use nr_linkrules::LinkFault;
 use std::alloc::Global;
 
 /// Sets the class's bit, where there is one.
-fn mark(row: &mut Items<bool>, class: ClassId)
+pub fn mark(row: &mut Items<bool>, class: ClassId)
     ensures { row.new ≡ slice_set row.old class true }
 {
     if let Some(bit) = row.get_mut(class as usize) {

@@ -7,11 +7,13 @@ ghost use Rattle.std.specs.Str.{bytes_eq};
 ghost use Rattle.nr_prog.specs.Members.{is_in, is_spelled, spells};
 ghost use Rattle.nr_linked.specs.Programs.{class_at, super_of};
 ghost use Rattle.nr_linked.specs.Subtypes.{Above};
-ghost use Rattle.nr_links.specs.Resolution.{declares_field, field_class, field_classes, has_field, interfaces_of};
+ghost use Rattle.nr_links.specs.Resolution.{declares_field, field_class, field_classes, has_field};
 ghost use Rattle.nr_linkrules.specs.Reaches.{HasSteps, reaches, rows_of};
 ghost use Rattle.nr_link.specs.Barren.{IsBarren};
+ghost use Rattle.nr_link.specs.Leading.{LeadAsInterfaces};
 
 use crate::closure::reaches;
+use crate::superinterfaces::interfaces_of;
 use nr_base::Items;
 use nr_linked::{ClassId, ProgramTables};
 use nr_prog::{Class, Field};
@@ -58,16 +60,6 @@ fn declares_field(tables: &ProgramTables, name: &[u8], desc: &[u8], class: Class
     }
 }
 
-/// What the class names as its direct superinterfaces.
-pub fn interfaces_of(tables: &ProgramTables, class: ClassId) -> &[ClassId]
-    ensures { result.now ≡ interfaces_of tables.now class }
-{
-    match tables.class_at(class) {
-        Some(info) => info.interfaces.as_slice(),
-        None => &[],
-    }
-}
-
 /// Whether a class at or above the class declares the field. It may also answer true elsewhere.
 #[tactic(auto, using(crate::proofs::Resolving::barren))]
 fn may_find(
@@ -97,6 +89,7 @@ fn may_find(
 fn find_field(
     tables: &ProgramTables,
     rows: &[Items<bool>],
+    lists: &[Items<ClassId>],
     name: &[u8],
     desc: &[u8],
     left: usize,
@@ -105,6 +98,7 @@ fn find_field(
     requires few { length tables.now.classes < 2 ^ 32 }
     requires rows { rows.now ≡ rows_of tables.now (length tables.now.classes) }
     requires steps { HasSteps tables.now }
+    requires lists { LeadAsInterfaces lists.now tables.now }
     ensures { result ≡ find (declares_field tables.now name.now desc.now) (field_classes tables.now left class) }
 {
     if left == 0 {
@@ -113,15 +107,15 @@ fn find_field(
     if declares_field(tables, name, desc, class) {
         return Some(class);
     }
-    for above in interfaces_of(tables, class) {
+    for above in interfaces_of(tables, lists, class) {
         if may_find(tables, rows, name, desc, *above) {
-            if let Some(found) = find_field(tables, rows, name, desc, left - 1, *above) {
+            if let Some(found) = find_field(tables, rows, lists, name, desc, left - 1, *above) {
                 return Some(found);
             }
         }
     }
     match tables.super_of(class) {
-        Some(above) => find_field(tables, rows, name, desc, left - 1, above),
+        Some(above) => find_field(tables, rows, lists, name, desc, left - 1, above),
         None => None,
     }
 }
@@ -130,6 +124,7 @@ fn find_field(
 pub fn field_class(
     tables: &ProgramTables,
     rows: &[Items<bool>],
+    lists: &[Items<ClassId>],
     class: ClassId,
     name: &[u8],
     desc: &[u8],
@@ -137,7 +132,8 @@ pub fn field_class(
     requires few { length tables.now.classes < 2 ^ 32 }
     requires rows { rows.now ≡ rows_of tables.now (length tables.now.classes) }
     requires steps { HasSteps tables.now }
+    requires lists { LeadAsInterfaces lists.now tables.now }
     ensures { result ≡ field_class tables.now class name.now desc.now }
 {
-    find_field(tables, rows, name, desc, tables.classes.len(), class)
+    find_field(tables, rows, lists, name, desc, tables.classes.len(), class)
 }

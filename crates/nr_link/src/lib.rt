@@ -28,6 +28,7 @@ mod names;
 mod outline;
 mod service;
 mod sites;
+mod superinterfaces;
 mod tables;
 
 pub use linking::link;

@@ -10,9 +10,10 @@ ghost use Rattle.nr_links.specs.Resolution.{classes_for, interface_and_above, is
 ghost use Rattle.nr_linkrules.specs.Reaches.{HasSteps, rows_of};
 ghost use Rattle.nr_link.specs.Barren.{IsBarren};
 ghost use Rattle.nr_link.specs.Declaring.{declares_method};
+ghost use Rattle.nr_link.specs.Leading.{LeadAsInterfaces};
 
 use crate::closure::reaches;
-use crate::fields::interfaces_of;
+use crate::superinterfaces::interfaces_of;
 use nr_base::Items;
 use nr_linked::{ClassId, MethodId, MethodInfo, ProgramTables};
 use std::ops::Range;
@@ -77,6 +78,7 @@ fn may_find(
 fn find_in_interfaces(
     tables: &ProgramTables,
     rows: &[Items<bool>],
+    lists: &[Items<ClassId>],
     name: &[u8],
     desc: &[u8],
     left: usize,
@@ -85,6 +87,7 @@ fn find_in_interfaces(
     requires few { length tables.now.classes < 2 ^ 32 }
     requires rows { rows.now ≡ rows_of tables.now (length tables.now.classes) }
     requires steps { HasSteps tables.now }
+    requires lists { LeadAsInterfaces lists.now tables.now }
     ensures { result ≡ find (declares_method tables.now name.now desc.now) (flat_map (interface_and_above tables.now left) interfaces.now) }
 {
     if left == 0 {
@@ -95,8 +98,16 @@ fn find_in_interfaces(
             if declares_method(tables, name, desc, *class) {
                 return Some(*class);
             }
-            let above = interfaces_of(tables, *class);
-            if let Some(found) = find_in_interfaces(tables, rows, name, desc, left - 1, above) {
+            let above = interfaces_of(tables, lists, *class);
+            if let Some(found) = find_in_interfaces(
+                tables,
+                rows,
+                lists,
+                name,
+                desc,
+                left - 1,
+                above,
+            ) {
                 return Some(found);
             }
         }
@@ -125,6 +136,7 @@ fn find_in_superclasses(
 fn find_in_superinterfaces(
     tables: &ProgramTables,
     rows: &[Items<bool>],
+    lists: &[Items<ClassId>],
     class: ClassId,
     name: &[u8],
     desc: &[u8],
@@ -132,12 +144,13 @@ fn find_in_superinterfaces(
     requires few { length tables.now.classes < 2 ^ 32 }
     requires rows { rows.now ≡ rows_of tables.now (length tables.now.classes) }
     requires steps { HasSteps tables.now }
+    requires lists { LeadAsInterfaces lists.now tables.now }
     ensures { result ≡ find (declares_method tables.now name.now desc.now) (superinterfaces tables.now class) }
 {
     let most = tables.classes.len();
     for class in tables.superclasses(class) {
-        let interfaces = interfaces_of(tables, class);
-        if let Some(found) = find_in_interfaces(tables, rows, name, desc, most, interfaces) {
+        let interfaces = interfaces_of(tables, lists, class);
+        if let Some(found) = find_in_interfaces(tables, rows, lists, name, desc, most, interfaces) {
             return Some(found);
         }
     }
@@ -149,6 +162,7 @@ fn find_in_superinterfaces(
 fn method_class(
     tables: &ProgramTables,
     rows: &[Items<bool>],
+    lists: &[Items<ClassId>],
     class: ClassId,
     name: &[u8],
     desc: &[u8],
@@ -156,15 +170,16 @@ fn method_class(
     requires few { length tables.now.classes < 2 ^ 32 }
     requires rows { rows.now ≡ rows_of tables.now (length tables.now.classes) }
     requires steps { HasSteps tables.now }
+    requires lists { LeadAsInterfaces lists.now tables.now }
     ensures { result ≡ find (declares_method tables.now name.now desc.now) (method_classes tables.now class) }
 {
     if tables.is_interface(class) {
         let most = tables.classes.len();
-        return find_in_interfaces(tables, rows, name, desc, most, &[class]);
+        return find_in_interfaces(tables, rows, lists, name, desc, most, &[class]);
     }
     match find_in_superclasses(tables, class, name, desc) {
         Some(found) => Some(found),
-        None => find_in_superinterfaces(tables, rows, class, name, desc),
+        None => find_in_superinterfaces(tables, rows, lists, class, name, desc),
     }
 }
 
@@ -172,6 +187,7 @@ fn method_class(
 fn declaring_class(
     tables: &ProgramTables,
     rows: &[Items<bool>],
+    lists: &[Items<ClassId>],
     class: ClassId,
     name: &[u8],
     desc: &[u8],
@@ -179,10 +195,11 @@ fn declaring_class(
     requires few { length tables.now.classes < 2 ^ 32 }
     requires rows { rows.now ≡ rows_of tables.now (length tables.now.classes) }
     requires steps { HasSteps tables.now }
+    requires lists { LeadAsInterfaces lists.now tables.now }
     ensures { result ≡ find (declares_method tables.now name.now desc.now) (classes_for tables.now class name.now) }
 {
     if name != b"<init>".as_slice() {
-        return method_class(tables, rows, class, name, desc);
+        return method_class(tables, rows, lists, class, name, desc);
     }
     if declares_method(tables, name, desc, class) {
         Some(class)
@@ -196,6 +213,7 @@ fn declaring_class(
 pub fn resolved_method(
     tables: &ProgramTables,
     rows: &[Items<bool>],
+    lists: &[Items<ClassId>],
     class: ClassId,
     name: &[u8],
     desc: &[u8],
@@ -204,9 +222,10 @@ pub fn resolved_method(
     requires few_methods { length tables.now.methods < 2 ^ 32 }
     requires rows { rows.now ≡ rows_of tables.now (length tables.now.classes) }
     requires steps { HasSteps tables.now }
+    requires lists { LeadAsInterfaces lists.now tables.now }
     ensures { result ≡ resolved_method tables.now class name.now desc.now }
 {
-    let holder = declaring_class(tables, rows, class, name, desc)?;
+    let holder = declaring_class(tables, rows, lists, class, name, desc)?;
     let method = declared(tables, holder, name, desc)?;
     Some(method as u32)
 }

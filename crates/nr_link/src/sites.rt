@@ -10,6 +10,7 @@ ghost use Rattle.nr_linked.specs.TypingFacts.{is_makeable};
 ghost use Rattle.nr_links.specs.Found.{index_in};
 ghost use Rattle.nr_linkrules.specs.Faults.{is_free};
 ghost use Rattle.nr_linkrules.specs.SiteRules.{constant_found, found_by, instr_found, kind_at, made_found, on_entry, place_in};
+ghost use Rattle.nr_link.specs.Leading.{LeadAsInterfaces};
 ghost use Rattle.nr_link.specs.Naming.{HasNames, IsNamedBy};
 ghost use Rattle.nr_link.specs.Ready.{IsReady};
 ghost use Rattle.nr_link.specs.Seen.{IsNamesOf};
@@ -99,12 +100,14 @@ fn find_by(
     tables: &ProgramTables,
     names: &IndexSet<&[u8]>,
     rows: &[Items<bool>],
+    lists: &[Items<ClassId>],
     info: &MethodInfo,
     class: &Class,
     instr: &Instr,
     index: u16,
 ) -> Result<Resolved, LinkFault>
     requires ready { IsReady tables.now names.now rows.now }
+    requires lists { LeadAsInterfaces lists.now tables.now }
     requires named { IsNamedBy class.now.pool index instr.now.row.family }
     ensures { GivesWhole is_free result (found_by tables.now (place_in tables.now info.now instr.now.at) class.now.pool instr.now.row.code index instr.now.row.family) }
 {
@@ -112,8 +115,12 @@ fn find_by(
     let code = instr.row.code;
     match instr.row.family {
         Family::F8 => Ok(constant(class, index)),
-        Family::F30 | Family::F31 => find_slot(alloc, tables, names, rows, info, class, at, index),
-        Family::F32 => find_call(alloc, tables, names, rows, info, class, at, code, index),
+        Family::F30 | Family::F31 => find_slot(
+            alloc, tables, names, rows, lists, info, class, at, index,
+        ),
+        Family::F32 => find_call(
+            alloc, tables, names, rows, lists, info, class, at, code, index,
+        ),
         Family::F33 => find_made(alloc, tables, names, info, class, at, index),
         Family::F34 | Family::F37 => {
             Ok(Resolved::Kind(kind_at(alloc, tables, names, class, index)?))
@@ -135,16 +142,18 @@ pub fn find(
     tables: &ProgramTables,
     names: &IndexSet<&[u8]>,
     rows: &[Items<bool>],
+    lists: &[Items<ClassId>],
     info: &MethodInfo,
     class: &Class,
     instr: &Instr,
 ) -> Result<Resolved, LinkFault>
     requires ready { IsReady tables.now names.now rows.now }
+    requires lists { LeadAsInterfaces lists.now tables.now }
     requires named { HasNames class.now.pool instr.now }
     ensures { GivesWhole is_free result (instr_found tables.now (place_in tables.now info.now) class.now.pool instr.now) }
 {
     match index_in(&instr.args) {
-        Some(index) => find_by(alloc, tables, names, rows, info, class, instr, index),
+        Some(index) => find_by(alloc, tables, names, rows, lists, info, class, instr, index),
         None => Ok(Resolved::Nothing),
     }
 }

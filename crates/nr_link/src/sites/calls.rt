@@ -11,6 +11,7 @@ ghost use Rattle.nr_linked.specs.Programs.{method_at};
 ghost use Rattle.nr_linkrules.specs.Faults.{is_free};
 ghost use Rattle.nr_linkrules.specs.Reaches.{HasSteps, rows_of};
 ghost use Rattle.nr_linkrules.specs.SiteRules.{Place as SpecPlace, by_member, callable, can_call, method_found, no_method, on_entry, on_member, or_fault, place_in};
+ghost use Rattle.nr_link.specs.Leading.{LeadAsInterfaces};
 ghost use Rattle.nr_link.specs.Naming.{IsMemberNamed};
 ghost use Rattle.nr_link.specs.Ready.{IsReady};
 
@@ -77,6 +78,7 @@ fn is_callable(
 fn method_named(
     tables: &ProgramTables,
     rows: &[Items<bool>],
+    lists: &[Items<ClassId>],
     kind: Kind,
     name: &[u8],
     desc: &[u8],
@@ -85,13 +87,14 @@ fn method_named(
     requires few_methods { length tables.now.methods < 2 ^ 32 }
     requires rows { rows.now ≡ rows_of tables.now (length tables.now.classes) }
     requires steps { HasSteps tables.now }
+    requires lists { LeadAsInterfaces lists.now tables.now }
     ensures { (p : SpecPlace) (code : ℕ) → method_found tables.now p code name.now desc.now kind ≡ then_on (or_fault (no_method p) result) (λ m. callable tables.now p code m.1 m.0) }
 {
     let class = class_with_members(tables, kind)?;
     if kind.dims > 0 && name == b"<init>".as_slice() {
         return None;
     }
-    let method = resolved_method(tables, rows, class, name, desc)?;
+    let method = resolved_method(tables, rows, lists, class, name, desc)?;
     Some((method, class))
 }
 
@@ -101,6 +104,7 @@ fn call_of_member(
     tables: &ProgramTables,
     names: &IndexSet<&[u8]>,
     rows: &[Items<bool>],
+    lists: &[Items<ClassId>],
     info: &MethodInfo,
     class: &Class,
     at: u16,
@@ -109,12 +113,13 @@ fn call_of_member(
     member: u16,
 ) -> Result<Resolved, LinkFault>
     requires ready { IsReady tables.now names.now rows.now }
+    requires lists { LeadAsInterfaces lists.now tables.now }
     requires named { NamesAnyClass class.now.pool named }
     ensures { GivesWhole is_free result (on_member tables.now class.now.pool (method_found tables.now (place_in tables.now info.now at) code) named member) }
 {
     let kind = kind_at(alloc, tables, names, class, named)?;
     let name = member_name(class, member);
-    match method_named(tables, rows, kind, name, member_desc(class, member)) {
+    match method_named(tables, rows, lists, kind, name, member_desc(class, member)) {
         Some((method, holder)) if is_callable(tables, info.class, code, holder, method) => {
             Ok(Resolved::Method(method, holder))
         }
@@ -135,6 +140,7 @@ pub fn find_call(
     tables: &ProgramTables,
     names: &IndexSet<&[u8]>,
     rows: &[Items<bool>],
+    lists: &[Items<ClassId>],
     info: &MethodInfo,
     class: &Class,
     at: u16,
@@ -142,13 +148,14 @@ pub fn find_call(
     index: u16,
 ) -> Result<Resolved, LinkFault>
     requires ready { IsReady tables.now names.now rows.now }
+    requires lists { LeadAsInterfaces lists.now tables.now }
     requires named { IfSome (entry_at class.now.pool index) (IsMemberNamed class.now.pool) }
     ensures { GivesWhole is_free result (on_entry (by_member tables.now class.now.pool (method_found tables.now (place_in tables.now info.now at) code)) class.now.pool index) }
 {
     match member_at(class, index) {
         Some((named, member)) => {
             call_of_member(
-                alloc, tables, names, rows, info, class, at, code, named, member,
+                alloc, tables, names, rows, lists, info, class, at, code, named, member,
             )
         }
         None => Ok(Resolved::Nothing),

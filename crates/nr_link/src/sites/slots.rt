@@ -10,6 +10,7 @@ ghost use Rattle.nr_links.specs.Resolution.{class_with_members, is_slot_of, reso
 ghost use Rattle.nr_linkrules.specs.Faults.{is_free};
 ghost use Rattle.nr_linkrules.specs.Reaches.{HasSteps, rows_of};
 ghost use Rattle.nr_linkrules.specs.SiteRules.{Place as SpecPlace, by_member, no_field, on_entry, on_member, or_fault, place_in, slot_found};
+ghost use Rattle.nr_link.specs.Leading.{LeadAsInterfaces};
 ghost use Rattle.nr_link.specs.Naming.{IsMemberNamed};
 ghost use Rattle.nr_link.specs.Ready.{IsReady};
 
@@ -57,6 +58,7 @@ fn place_of_slot(slots: &[SlotInfo], class: ClassId, name: &[u8], desc: &[u8]) -
 fn resolved_slot(
     tables: &ProgramTables,
     rows: &[Items<bool>],
+    lists: &[Items<ClassId>],
     class: ClassId,
     name: &[u8],
     desc: &[u8],
@@ -64,10 +66,11 @@ fn resolved_slot(
     requires few { length tables.now.classes < 2 ^ 32 }
     requires rows { rows.now ≡ rows_of tables.now (length tables.now.classes) }
     requires steps { HasSteps tables.now }
+    requires lists { LeadAsInterfaces lists.now tables.now }
     requires few_slots { length (slots_of tables.now class) < 2 ^ 32 }
     ensures { result ≡ resolved_slot tables.now class name.now desc.now }
 {
-    let holder = field_class(tables, rows, class, name, desc)?;
+    let holder = field_class(tables, rows, lists, class, name, desc)?;
     let slot = place_of_slot(slots_of(tables, class), holder, name, desc)?;
     Some(slot as u32)
 }
@@ -76,6 +79,7 @@ fn resolved_slot(
 fn slot_found(
     tables: &ProgramTables,
     rows: &[Items<bool>],
+    lists: &[Items<ClassId>],
     kind: Kind,
     name: &[u8],
     desc: &[u8],
@@ -83,11 +87,12 @@ fn slot_found(
     requires few { length tables.now.classes < 2 ^ 32 }
     requires rows { rows.now ≡ rows_of tables.now (length tables.now.classes) }
     requires steps { HasSteps tables.now }
+    requires lists { LeadAsInterfaces lists.now tables.now }
     requires few_slots { (c : ℕ) → length (slots_of tables.now c) < 2 ^ 32 }
     ensures { (p : SpecPlace) → slot_found tables.now p name.now desc.now kind ≡ or_fault (no_field p) result }
 {
     let class = class_with_members(tables, kind)?;
-    let slot = resolved_slot(tables, rows, class, name, desc)?;
+    let slot = resolved_slot(tables, rows, lists, class, name, desc)?;
     Some(Resolved::Slot(class, slot))
 }
 
@@ -97,6 +102,7 @@ fn slot_of_member(
     tables: &ProgramTables,
     names: &IndexSet<&[u8]>,
     rows: &[Items<bool>],
+    lists: &[Items<ClassId>],
     info: &MethodInfo,
     class: &Class,
     at: u16,
@@ -104,12 +110,13 @@ fn slot_of_member(
     member: u16,
 ) -> Result<Resolved, LinkFault>
     requires ready { IsReady tables.now names.now rows.now }
+    requires lists { LeadAsInterfaces lists.now tables.now }
     requires named { NamesAnyClass class.now.pool named }
     ensures { GivesWhole is_free result (on_member tables.now class.now.pool (slot_found tables.now (place_in tables.now info.now at)) named member) }
 {
     let kind = kind_at(alloc, tables, names, class, named)?;
     let name = member_name(class, member);
-    match slot_found(tables, rows, kind, name, member_desc(class, member)) {
+    match slot_found(tables, rows, lists, kind, name, member_desc(class, member)) {
         Some(found) => Ok(found),
         None => {
             let Place { class, method, at } = place_of(alloc, tables, info, at)?;
@@ -124,18 +131,22 @@ pub fn find_slot(
     tables: &ProgramTables,
     names: &IndexSet<&[u8]>,
     rows: &[Items<bool>],
+    lists: &[Items<ClassId>],
     info: &MethodInfo,
     class: &Class,
     at: u16,
     index: u16,
 ) -> Result<Resolved, LinkFault>
     requires ready { IsReady tables.now names.now rows.now }
+    requires lists { LeadAsInterfaces lists.now tables.now }
     requires named { IfSome (entry_at class.now.pool index) (IsMemberNamed class.now.pool) }
     ensures { GivesWhole is_free result (on_entry (by_member tables.now class.now.pool (slot_found tables.now (place_in tables.now info.now at))) class.now.pool index) }
 {
     match member_at(class, index) {
         Some((named, member)) => {
-            slot_of_member(alloc, tables, names, rows, info, class, at, named, member)
+            slot_of_member(
+                alloc, tables, names, rows, lists, info, class, at, named, member,
+            )
         }
         None => Ok(Resolved::Nothing),
     }

@@ -1,6 +1,4 @@
-use Rattle.std.proofs.Common.{ℕ, ◌-◌, find, sym, ap, ◌∙◌}
-use Rattle.std.specs.Prelude.{List}
-use Rattle.std.specs.List.{flat_map}
+use Rattle.std.proofs.Common.{◌-◌, sym, ◌∙◌}
 use Rattle.std.proofs.lemmas.List.{get_or_default}
 use Rattle.nr_links.specs.Resolution.{interface_and_above}
 use Rattle.nr_link.specs.Declaring.{declares_method}
@@ -20,7 +18,7 @@ pub returns-in-Some : goal.returns-in-Some
 returns-in-Some t c =
     finds_above c.args.tables.now (declares_method c.args.tables.now c.args.name.now c.args.desc.now) c.args.left c.args.interfaces.now _ _ _ c.loop-class-test.true (get_or_default c.args.interfaces.now _ _ _ c.loop-class-test.true)
     (sym c.declares_method.ensures ∙ c.if-declares_method.false)
-    (ap (λ (ss : List ℕ). find (declares_method c.args.tables.now c.args.name.now c.args.desc.now) (flat_map (interface_and_above c.args.tables.now (c.args.left - 1)) ss)) (sym c.interfaces_of-above.ensures)
+    (sym (c.interfaces_of-above.ensures (interface_and_above c.args.tables.now (c.args.left - 1)) (declares_method c.args.tables.now c.args.name.now c.args.desc.now))
     ∙ sym c.find_in_interfaces.ensures ∙ c.in-Some.is)
     c.loop-class.invariant
 
@@ -28,7 +26,7 @@ pub loop-class-preserved : goal.loop-class-preserved
 loop-class-preserved t c = elim c.if-may_find.branch [
   | then-may_find+else-declares_method+in_default w ↦ goes_by c.args.tables.now (declares_method c.args.tables.now c.args.name.now c.args.desc.now) c.args.left c.args.interfaces.now _ _ c.loop-class-test.true (get_or_default c.args.interfaces.now _ _ _ c.loop-class-test.true)
       (sym w.declares_method.ensures ∙ w.if-declares_method.false)
-      (ap (λ (ss : List ℕ). find (declares_method c.args.tables.now c.args.name.now c.args.desc.now) (flat_map (interface_and_above c.args.tables.now (c.args.left - 1)) ss)) (sym w.interfaces_of-above.ensures)
+      (sym (w.interfaces_of-above.ensures (interface_and_above c.args.tables.now (c.args.left - 1)) (declares_method c.args.tables.now c.args.name.now c.args.desc.now))
       ∙ sym w.find_in_interfaces.ensures ∙ w.in_default.is)
       c.loop-class.invariant
   | else-may_find w ↦ passes_over c.args.tables.now (declares_method c.args.tables.now c.args.name.now c.args.desc.now) c.args.left c.args.interfaces.now _ _ c.loop-class-test.true (get_or_default c.args.interfaces.now _ _ _ c.loop-class-test.true)

@@ -1,5 +1,4 @@
-use Rattle.std.proofs.Common.{ℕ, find, sym, ap, ◌∙◌}
-use Rattle.std.specs.Prelude.{List}
+use Rattle.std.proofs.Common.{sym, ◌∙◌}
 use Rattle.std.specs.List.{flat_map}
 use Rattle.nr_linked.proofs.Upward.{goes_on, stops}
 use Rattle.nr_links.specs.Resolution.{interface_and_above, interfaces_of}
@@ -10,7 +9,7 @@ pub returns-in-Some-find_in_interfaces : goal.returns-in-Some-find_in_interfaces
 returns-in-Some-find_in_interfaces c =
     stops (λ d. flat_map (interface_and_above c.args.tables.now c.len-most.result) (interfaces_of c.args.tables.now d)) (declares_method c.args.tables.now c.args.name.now c.args.desc.now) c.in-Some.class _ _ _ c.in-Some-find_in_interfaces.found
     c.in-Some.ensures.steps
-    (ap (λ (ss : List ℕ). find (declares_method c.args.tables.now c.args.name.now c.args.desc.now) (flat_map (interface_and_above c.args.tables.now c.len-most.result) ss)) (sym c.interfaces_of-interfaces.ensures)
+    (sym (c.interfaces_of-interfaces.ensures (interface_and_above c.args.tables.now c.len-most.result) (declares_method c.args.tables.now c.args.name.now c.args.desc.now))
     ∙ sym c.find_in_interfaces.ensures ∙ c.in-Some-find_in_interfaces.is)
     c.loop-class.invariant.2
 
@@ -20,7 +19,7 @@ loop-class-preserved c = (
   tt,
   goes_on (λ d. flat_map (interface_and_above c.args.tables.now c.len-most.result) (interfaces_of c.args.tables.now d)) (declares_method c.args.tables.now c.args.name.now c.args.desc.now) c.in-Some.class _ _ _
       c.in-Some.ensures.steps
-      (ap (λ (ss : List ℕ). find (declares_method c.args.tables.now c.args.name.now c.args.desc.now) (flat_map (interface_and_above c.args.tables.now c.len-most.result) ss)) (sym c.interfaces_of-interfaces.ensures)
+      (sym (c.interfaces_of-interfaces.ensures (interface_and_above c.args.tables.now c.len-most.result) (declares_method c.args.tables.now c.args.name.now c.args.desc.now))
       ∙ sym c.find_in_interfaces.ensures ∙ c.in_default.is)
       c.loop-class.invariant.2,
 )
