@@ -8,7 +8,6 @@ use Rattle.std.proofs.lemmas.Grind.{flat_map-append}
 use Rattle.std.proofs.lemmas.List.{drop_all, get_or-replicate, get_or-set_other, get_or_past, length-replicate}
 use Rattle.nr_linked.specs.declared.program.tables.ClassInfo.{ClassInfo}
 use Rattle.nr_linked.specs.declared.program.tables.ProgramTables.{ProgramTables}
-use Rattle.nr_linked.specs.Programs.{class_at}
 use Rattle.nr_links.specs.Resolution.{interfaces_of}
 use Rattle.nr_link.specs.Leading.{LeadAlike, LeadAsInterfaces, list_at}
 use Rattle.nr_link.proofs.Loops.{append_nil}
