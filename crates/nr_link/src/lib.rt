@@ -26,6 +26,7 @@ mod methods;
 mod named;
 mod names;
 mod outline;
+mod room;
 mod service;
 mod sites;
 mod superinterfaces;

@@ -30,6 +30,7 @@ use crate::list::check_list;
 use crate::members::check_members;
 use crate::names::{all_names, numbers};
 use crate::outline::outline;
+use crate::room::has_room;
 use indexmap::IndexSet;
 use nr_base::{Items, Name};
 use nr_linked::{MethodInfo, Program, ProgramTables};
@@ -170,5 +171,8 @@ pub fn link(alloc: Global, classes: Items<Loaded>) -> Result<Program, LinkFault>
     ensures only { (P : Tables) → Links classes P → GivesWhole is_free result (Ok P) }
     ensures exact { Finds result (link_fault classes) }
 {
+    if !has_room(classes.as_slice()) {
+        return Err(LinkFault::NoMemory);
+    }
     Ok(Program::new(link_tables(alloc, classes)?))
 }
