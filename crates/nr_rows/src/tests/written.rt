@@ -101,7 +101,7 @@ fn entry<R: AllocGlobal + Abort>(rt: &R, maker: &mut ClassMaker, text: &str) -> 
         let index = maker.class_ref(alloc, &name(rt, word(1)));
         return index.expect(rt, "an entry");
     }
-    let tag = number(rt, word(1)) as u8;
+    let tag = word(1).parse::<u8>().expect(rt, "a tag");
     assert!(rt; 9 <= tag && tag <= 11);
     let (class, member, desc) = (name(rt, word(2)), name(rt, word(3)), name(rt, word(4)));
     let index = maker.member_ref(alloc, tag, &class, &member, &desc);
