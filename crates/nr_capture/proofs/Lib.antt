@@ -1,0 +1,14 @@
+pub mod Found
+pub mod Stands
+pub mod Fewer
+pub mod Nodes
+pub mod Fits
+pub mod Spreads
+pub mod MadeNodes
+pub mod StreamFits
+pub mod FilledSlots
+pub mod PlantedGraphs
+pub mod CopiesExist
+pub mod MadeKinds
+pub mod PlantsExist
+pub mod Rooms

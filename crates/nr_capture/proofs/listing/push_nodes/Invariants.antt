@@ -1,0 +1,6 @@
+use Rattle.std.proofs.Common.{◌≡◌, ◌++◌, reverse}
+use Rattle.nr_graph.specs.Graphs.{nodes_in}
+use Rattle.nr_capture.proofs.listing.push_nodes.Given as goal
+
+abbrev pub invariant-loop-slot : goal.invariant-loop-slot
+invariant-loop-slot l = l.stack.items ≡ l.initial.stack.items ++ reverse (nodes_in (reverse l.yielded))

@@ -1,0 +1,4 @@
+//! Graphs and linear maps, each answer worked out by hand.
+
+mod map;
+mod order;

@@ -1,0 +1,10 @@
+pub mod ClassNumbers
+pub mod Members
+pub mod StreamSlots
+pub mod Forms
+pub mod Entries
+pub mod Handles
+pub mod Keys
+pub mod Descriptions
+pub mod Spelling
+pub mod Streams

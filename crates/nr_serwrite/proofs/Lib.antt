@@ -1,0 +1,13 @@
+pub mod Dotted
+pub mod Spells
+pub mod Tables
+pub mod Items
+pub mod SlotSorts
+pub mod Steps
+pub mod Heights
+pub mod Described
+pub mod Streams
+pub mod ReadTexts
+pub mod OneText
+pub mod SomeText
+pub mod Turns
