@@ -1,0 +1,17 @@
+pub mod Rounds
+pub mod Saying
+pub mod Frames
+pub mod Starts
+pub mod Standing
+pub mod Pacing
+pub mod Conversation
+pub mod Replied
+pub mod Talking
+pub mod ToCome
+pub mod Followed
+pub mod OneRequest
+pub mod OneRun
+pub mod OneList
+pub mod OneRefusal
+pub mod OneReply
+pub mod Examples
