@@ -54,3 +54,12 @@ pub kind_lost : (P : ProgramTables) (bytes name : List ℕ) → None ≡ option_
 unfolding kind_named
 kind_lost P bytes name e is =
     ap (λ (o : Option Kind). or_fault (faults.NoClass (class_named_by bytes)) o) (sym e) ∙ ap (λ name. Err (faults.NoClass name)) (sym is)
+
+-- what a class's text names is what the class's bytes name
+pub kind_of_text : (P : ProgramTables) (pool : List PoolEntry) (index : ℕ) (found : Option Kind) → NamesAnyClass pool index → found ≡ option_and_then (λ text. option_and_then (kind_of P) (class_desc text)) (class_text_at pool index)
+    → found ≡ option_and_then (kind_of P) (class_desc (class_bytes pool index))
+kind_of_text P pool index found h e = e ∙ of_text (class_text_at pool index) h
+  where
+    of_text : (o : Option (List ℕ)) → IsSomeAnd o IsModifiedUtf8 → option_and_then (λ text. option_and_then (kind_of P) (class_desc text)) o ≡ option_and_then (kind_of P) (class_desc (option_map_or (λ (text : List ℕ). text) o []))
+    of_text None h = absurd h
+    of_text (Some text) h = refl

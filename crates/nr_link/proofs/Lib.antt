@@ -25,3 +25,6 @@ pub mod AroundMethods
 pub mod Finishing
 pub mod LinkedPrograms
 pub mod Once
+pub mod Meant
+pub mod Looked
+pub mod KeptMembers

@@ -35,7 +35,8 @@ use Rattle.nr_linkrules.proofs.Program.{laid_methods, methods_length}
 use Rattle.nr_link.specs.Finished.{finished, later_methods, loaded_methods}
 use Rattle.nr_link.specs.Coded.{IsCoded}
 use Rattle.nr_link.specs.Ready.{IsReady}
-use Rattle.nr_link.specs.Seen.{AreApart, texts}
+use Rattle.nr_link.specs.Seen.{AreApart}
+use Rattle.nr_names.specs.Numbers.{texts}
 use Rattle.nr_link.proofs.Apart.{all_apart}
 use Rattle.nr_link.proofs.Prepared.{coded, ready}
 use Rattle.nr_link.proofs.Steps.{entry_count, has_steps, names_are}

@@ -36,7 +36,7 @@ use Rattle.nr_linkrules.proofs.Parts.{map_twice}
 use Rattle.nr_linkrules.proofs.Program.{bare_classes, classes_laid, laid_methods, methods_length}
 use Rattle.nr_link.specs.Coded.{IsCoded, read_class}
 use Rattle.nr_link.specs.Ready.{IsReady}
-use Rattle.nr_link.specs.Seen.{texts}
+use Rattle.nr_names.specs.Numbers.{texts}
 use Rattle.nr_link.proofs.Codes.{all_coded}
 use Rattle.nr_link.proofs.Steps as outlines
 use Rattle.indexmap.specs.IndexSet.{IndexSet}

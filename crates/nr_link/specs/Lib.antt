@@ -13,3 +13,5 @@ pub mod Laid
 pub mod Around
 pub mod Completing
 pub mod Leading
+pub mod Meanings
+pub mod Lookups

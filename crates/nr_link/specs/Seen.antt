@@ -5,10 +5,7 @@ use Rattle.std.specs.Str.{bytes_eq}
 use Rattle.std.specs.Borrow.{Bor}
 use Rattle.nr_linked.specs.declared.program.tables.ProgramTables.{ProgramTables}
 use Rattle.indexmap.specs.IndexSet.{IndexSet}
-
--- the texts of the set, in its order
-unfoldable pub texts : {S : Type 0} → IndexSet (Bor (List ℕ)) S → List (List ℕ)
-texts set = map (λ k. k.now) set.keys
+use Rattle.nr_names.specs.Numbers.{texts}
 
 -- the set has the names of the program's classes, by their numbers
 abbrev pub IsNamesOf : {S : Type 0} → ProgramTables → IndexSet (Bor (List ℕ)) S → Type 0

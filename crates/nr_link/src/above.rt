@@ -8,34 +8,38 @@ ghost use Rattle.nr_linkrules.specs.ClassRules.{above_fault, known_fault, named_
 ghost use Rattle.nr_linkrules.specs.Faults.{Finds, first_numbered, first_of};
 ghost use Rattle.nr_linkrules.specs.LinkFaults.{first_class_fault, on_loaded};
 ghost use Rattle.nr_linkrules.specs.Outline.{some_text};
-ghost use Rattle.nr_link.specs.Seen.{IsNamesOf, texts};
+ghost use Rattle.nr_link.specs.Seen.{IsNamesOf};
+ghost use Rattle.nr_names.specs.Numbers.{numbers_of, texts};
 
-use crate::names::{class_name_at, name_of, number};
+use crate::names::{class_name_at, name_of};
+use crate::outline::class_number;
 use crate::tables::{has_final_above, has_kinds_above};
 use indexmap::IndexSet;
 use nr_base::Name;
 use nr_linked::{ClassId, ClassInfo, ProgramTables};
 use nr_linkrules::LinkFault;
+use nr_names::numbers_of;
 use nr_prog::Class;
 use std::alloc::Global;
 
 /// Looks for the class that the index names.
-#[tactic(auto, using(nr_linkrules::proofs::NameLaws::known_by_texts), unfolding(nr_linkrules::specs::ClassRules::known_fault))]
+#[tactic(auto, using(crate::proofs::NamedClasses::known_at), unfolding(nr_linkrules::specs::ClassRules::known_fault))]
 fn check_known(
     alloc: Global,
     tables: &ProgramTables,
     names: &IndexSet<&[u8]>,
+    numbers: &[Option<u32>],
     class: &Class,
     index: u16,
 ) -> Result<(), LinkFault>
     requires names { IsNamesOf tables.now names.now }
+    requires numbers { numbers.now ≡ numbers_of (texts names.now) class.now.pool }
     requires named { NamesClass class.now.pool index }
     ensures { Finds result (known_fault tables.now (some_text (class_text_at class.now.pool index))) }
 {
-    let name = class_name_at(class, index);
-    match number(names, name) {
+    match class_number(names, numbers, class, index) {
         Some(_) => Ok(()),
-        None => Err(LinkFault::NoClass(name_of(alloc, name)?)),
+        None => Err(LinkFault::NoClass(name_of(alloc, class_name_at(class, index))?)),
     }
 }
 
@@ -44,15 +48,17 @@ fn check_interfaces(
     alloc: Global,
     tables: &ProgramTables,
     names: &IndexSet<&[u8]>,
+    numbers: &[Option<u32>],
     class: &Class,
     interfaces: &[u16],
 ) -> Result<(), LinkFault>
     requires names { IsNamesOf tables.now names.now }
+    requires numbers { numbers.now ≡ numbers_of (texts names.now) class.now.pool }
     requires named { All (NamesClass class.now.pool) interfaces.now }
     ensures { Finds result (first_of (named_fault tables.now class.now.pool) interfaces.now) }
 {
     for index in interfaces {
-        check_known(alloc, tables, names, class, *index)?;
+        check_known(alloc, tables, names, numbers, class, *index)?;
     }
     Ok(())
 }
@@ -62,14 +68,23 @@ fn check_named(
     alloc: Global,
     tables: &ProgramTables,
     names: &IndexSet<&[u8]>,
+    numbers: &[Option<u32>],
     class: &Class,
 ) -> Result<(), LinkFault>
     requires names { IsNamesOf tables.now names.now }
+    requires numbers { numbers.now ≡ numbers_of (texts names.now) class.now.pool }
     ensures { Finds result (named_above_fault tables.now class.now) }
 {
     let parts = class.parts();
-    check_known(alloc, tables, names, class, parts.super_class)?;
-    check_interfaces(alloc, tables, names, class, parts.interfaces.as_slice())
+    check_known(alloc, tables, names, numbers, class, parts.super_class)?;
+    check_interfaces(
+        alloc,
+        tables,
+        names,
+        numbers,
+        class,
+        parts.interfaces.as_slice(),
+    )
 }
 
 /// The class's name, for a fault. The error comes only for want of memory.
@@ -93,9 +108,11 @@ fn check_above(
     class: &Class,
 ) -> Result<(), LinkFault>
     requires names { IsNamesOf tables.now names.now }
+    requires few { length tables.now.classes < 2 ^ 32 }
     ensures { Finds result (above_fault tables.now place info.now class.now) }
 {
-    check_named(alloc, tables, names, class)?;
+    let numbers = numbers_of(alloc, names, class.parts().pool.as_slice())?;
+    check_named(alloc, tables, names, numbers.as_slice(), class)?;
     if !has_kinds_above(tables, place, info) {
         return Err(LinkFault::SuperKind(copied(&info.name)?));
     }
@@ -113,6 +130,7 @@ fn check_entry(
     info: &ClassInfo,
 ) -> Result<(), LinkFault>
     requires names { IsNamesOf tables.now names.now }
+    requires few { length tables.now.classes < 2 ^ 32 }
     ensures { Finds result (on_loaded (above_fault tables.now) place info.now) }
 {
     match &info.read {
@@ -129,6 +147,7 @@ fn check_each(
     classes: &[ClassInfo],
 ) -> Result<(), LinkFault>
     requires names { IsNamesOf tables.now names.now }
+    requires few_classes { length tables.now.classes < 2 ^ 32 }
     requires few { length classes.now < 2 ^ 32 }
     ensures { Finds result (first_numbered (on_loaded (above_fault tables.now)) 0 classes.now) }
 {

@@ -1,18 +1,21 @@
 //! What exception handlers and frame maps of a method name (JVM Specification 4.7.3, 4.7.4).
 
-ghost use Rattle.std.specs.Prelude.{◌≡◌, ◌<◌, ◌^◌, length, map, All, IfOk};
+ghost use Rattle.std.specs.Prelude.{◌≡◌, Some, map, All, IfOk};
 ghost use Rattle.nr_linked.specs.Linked.{frame_maps_of, handlers_of};
 ghost use Rattle.nr_linkrules.specs.Completion.{caught, frame_of};
 ghost use Rattle.nr_linkrules.specs.Faults.{Finds, first_of};
 ghost use Rattle.nr_linkrules.specs.SiteRules.{around_fault, handler_fault, pool_of};
 ghost use Rattle.nr_link.specs.Around.{IsCatchNamed};
+ghost use Rattle.nr_link.specs.Coded.{read_class};
+ghost use Rattle.nr_link.specs.Lookups.{IsIndexed};
 ghost use Rattle.nr_link.specs.Seen.{IsNamesOf};
 
 use crate::frames::frames_of;
+use crate::lookup::Lookup;
 use crate::named::kind_at;
 use indexmap::IndexSet;
 use nr_base::Items;
-use nr_linked::{Kind, MethodInfo, ProgramTables, VFrame};
+use nr_linked::{ClassId, Kind, MethodInfo, ProgramTables, VFrame};
 use nr_linkrules::LinkFault;
 use nr_prog::{Class, Handler};
 use std::alloc::Global;
@@ -31,12 +34,13 @@ pub struct Around {
 fn caught(
     alloc: Global,
     tables: &ProgramTables,
-    names: &IndexSet<&[u8]>,
+    lookup: &Lookup,
+    own: ClassId,
     class: &Class,
     handler: &Handler,
 ) -> Result<Option<Kind>, LinkFault>
-    requires names { IsNamesOf tables.now names.now }
-    requires few { length tables.now.classes < 2 ^ 32 }
+    requires indexed { IsIndexed tables.now lookup.now }
+    requires here { Some class.now ≡ read_class tables.now own }
     requires named { IsCatchNamed class.now.pool handler.now }
     ensures fault { Finds result (handler_fault tables.now class.now.pool handler.now) }
     ensures found { IfOk result (λ found. found ≡ caught tables.now class.now.pool handler.now) }
@@ -44,7 +48,7 @@ fn caught(
     if handler.catch_type == 0 {
         return Ok(None);
     }
-    let kind = kind_at(alloc, tables, names, class, handler.catch_type)?;
+    let kind = kind_at(alloc, tables, lookup, own, class, handler.catch_type)?;
     Ok(Some(kind))
 }
 
@@ -52,19 +56,20 @@ fn caught(
 fn catches_of(
     alloc: Global,
     tables: &ProgramTables,
-    names: &IndexSet<&[u8]>,
+    lookup: &Lookup,
+    own: ClassId,
     class: &Class,
     handlers: &[Handler],
 ) -> Result<Items<Option<Kind>>, LinkFault>
-    requires names { IsNamesOf tables.now names.now }
-    requires few { length tables.now.classes < 2 ^ 32 }
+    requires indexed { IsIndexed tables.now lookup.now }
+    requires here { Some class.now ≡ read_class tables.now own }
     requires named { All (IsCatchNamed class.now.pool) handlers.now }
     ensures fault { Finds result (first_of (handler_fault tables.now class.now.pool) handlers.now) }
     ensures found { IfOk result (λ found. found ≡ map (caught tables.now class.now.pool) handlers.now) }
 {
     let mut catches = Items::new(alloc);
     for handler in handlers {
-        catches.push(caught(alloc, tables, names, class, handler)?)?;
+        catches.push(caught(alloc, tables, lookup, own, class, handler)?)?;
     }
     Ok(catches)
 }
@@ -80,11 +85,13 @@ pub fn find_around(
     alloc: Global,
     tables: &ProgramTables,
     names: &IndexSet<&[u8]>,
+    lookup: &Lookup,
     class: &Class,
     method: &MethodInfo,
 ) -> Result<Around, LinkFault>
     requires names { IsNamesOf tables.now names.now }
-    requires few { length tables.now.classes < 2 ^ 32 }
+    requires indexed { IsIndexed tables.now lookup.now }
+    requires here { Some class.now ≡ read_class tables.now method.now.«class» }
     requires class { pool_of tables.now method.now ≡ class.now.pool }
     requires named { All (IsCatchNamed class.now.pool) (handlers_of method.now) }
     ensures fault { Finds result (around_fault tables.now method.now) }
@@ -98,7 +105,14 @@ pub fn find_around(
         });
     };
     Ok(Around {
-        catches: catches_of(alloc, tables, names, class, body.handlers.as_slice())?,
+        catches: catches_of(
+            alloc,
+            tables,
+            lookup,
+            method.class,
+            class,
+            body.handlers.as_slice(),
+        )?,
         maps: frames_of(alloc, tables, names, body.maps.as_slice())?,
     })
 }

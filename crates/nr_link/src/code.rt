@@ -1,18 +1,16 @@
 //! What linking finds for the code of methods.
 
-ghost use Rattle.std.specs.Prelude.{◌≡◌, All, IfOk, map, option_copied};
+ghost use Rattle.std.specs.Prelude.{◌≡◌, All, IfOk, Some, map, option_copied};
 ghost use Rattle.nr_linked.specs.Linked.{instrs_of};
 ghost use Rattle.nr_linkrules.specs.Completion.{resolved_in};
 ghost use Rattle.nr_linkrules.specs.Faults.{Finds, first_of};
 ghost use Rattle.nr_linkrules.specs.SiteRules.{code_fault};
 ghost use Rattle.nr_link.specs.Coded.{IsCoded, found_in, read_class, site_fault};
-ghost use Rattle.nr_link.specs.Leading.{LeadAsInterfaces};
+ghost use Rattle.nr_link.specs.Lookups.{IsIndexed};
 ghost use Rattle.nr_link.specs.Naming.{HasNames};
-ghost use Rattle.nr_link.specs.Ready.{IsReady};
 
+use crate::lookup::Lookup;
 use crate::sites::find;
-use crate::superinterfaces::interface_lists;
-use indexmap::IndexSet;
 use nr_base::Items;
 use nr_linked::{ClassId, MethodInfo, ProgramTables, Resolved};
 use nr_linkrules::LinkFault;
@@ -23,22 +21,20 @@ use std::alloc::Global;
 fn find_each(
     alloc: Global,
     tables: &ProgramTables,
-    names: &IndexSet<&[u8]>,
-    rows: &[Items<bool>],
-    lists: &[Items<ClassId>],
+    lookup: &Lookup,
     info: &MethodInfo,
     class: &Class,
     instrs: &[Instr],
 ) -> Result<Items<Resolved>, LinkFault>
-    requires ready { IsReady tables.now names.now rows.now }
-    requires lists { LeadAsInterfaces lists.now tables.now }
+    requires indexed { IsIndexed tables.now lookup.now }
+    requires here { Some class.now ≡ read_class tables.now info.now.«class» }
     requires named { All (HasNames class.now.pool) instrs.now }
     ensures fault { Finds result (first_of (site_fault tables.now info.now class.now.pool) instrs.now) }
     ensures found { IfOk result (λ found. found ≡ map (found_in tables.now info.now class.now.pool) instrs.now) }
 {
     let mut found = Items::new(alloc);
     for instr in instrs {
-        found.push(find(alloc, tables, names, rows, lists, info, class, instr)?)?;
+        found.push(find(alloc, tables, lookup, info, class, instr)?)?;
     }
     Ok(found)
 }
@@ -63,20 +59,17 @@ fn instrs_of(info: &MethodInfo) -> &[Instr]
 fn find_in_method(
     alloc: Global,
     tables: &ProgramTables,
-    names: &IndexSet<&[u8]>,
-    rows: &[Items<bool>],
-    lists: &[Items<ClassId>],
+    lookup: &Lookup,
     info: &MethodInfo,
 ) -> Result<Items<Resolved>, LinkFault>
-    requires ready { IsReady tables.now names.now rows.now }
-    requires lists { LeadAsInterfaces lists.now tables.now }
+    requires indexed { IsIndexed tables.now lookup.now }
     requires coded { IsCoded tables.now info.now }
     ensures fault { Finds result (code_fault tables.now info.now) }
     ensures found { IfOk result (λ found. found ≡ resolved_in tables.now info.now) }
 {
     let instrs = instrs_of(info);
     match read_class(tables, info.class) {
-        Some(class) => find_each(alloc, tables, names, rows, lists, info, class, instrs),
+        Some(class) => find_each(alloc, tables, lookup, info, class, instrs),
         None => Ok(Items::new(alloc)),
     }
 }
@@ -86,20 +79,17 @@ fn find_in_method(
 pub fn find_in_methods(
     alloc: Global,
     tables: &ProgramTables,
-    names: &IndexSet<&[u8]>,
-    rows: &[Items<bool>],
+    lookup: &Lookup,
     methods: &[MethodInfo],
 ) -> Result<Items<Items<Resolved>>, LinkFault>
-    requires ready { IsReady tables.now names.now rows.now }
+    requires indexed { IsIndexed tables.now lookup.now }
     requires coded { All (IsCoded tables.now) methods.now }
     ensures fault { Finds result (first_of (code_fault tables.now) methods.now) }
     ensures found { IfOk result (λ found. found ≡ map (resolved_in tables.now) methods.now) }
 {
-    let lists = interface_lists(alloc, tables)?;
-    let lists = lists.as_slice();
     let mut found = Items::new(alloc);
     for info in methods {
-        found.push(find_in_method(alloc, tables, names, rows, lists, info)?)?;
+        found.push(find_in_method(alloc, tables, lookup, info)?)?;
     }
     Ok(found)
 }

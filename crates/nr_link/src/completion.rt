@@ -9,12 +9,14 @@ ghost use Rattle.nr_linkrules.specs.Layout.{kind_of};
 ghost use Rattle.nr_linkrules.specs.SiteRules.{around_fault};
 ghost use Rattle.nr_link.specs.Coded.{IsCoded};
 ghost use Rattle.nr_link.specs.Completing.{around_of, completed_by, found_for, signature_of};
+ghost use Rattle.nr_link.specs.Lookups.{IsIndexed};
 ghost use Rattle.nr_link.specs.Seen.{IsNamesOf};
 
 use crate::around::{Around, find_around};
 use crate::code::read_class;
 use crate::gathering::push_some;
 use crate::kinds::kind_of;
+use crate::lookup::Lookup;
 use indexmap::IndexSet;
 use nr_base::{Desc, DescFault, Items, MethodDesc};
 use nr_linked::{Kind, MethodInfo, ProgramTables, Resolved};
@@ -100,16 +102,17 @@ fn around_of(
     alloc: Global,
     tables: &ProgramTables,
     names: &IndexSet<&[u8]>,
+    lookup: &Lookup,
     info: &MethodInfo,
 ) -> Result<Around, LinkFault>
     requires names { IsNamesOf tables.now names.now }
-    requires few { length tables.now.classes < 2 ^ 32 }
+    requires indexed { IsIndexed tables.now lookup.now }
     requires coded { IsCoded tables.now info.now }
     ensures fault { Finds result (around_fault tables.now info.now) }
     ensures around { IfOk result (λ around. around ≡ around_of tables.now info.now) }
 {
     match read_class(tables, info.class) {
-        Some(class) => find_around(alloc, tables, names, class, info),
+        Some(class) => find_around(alloc, tables, names, lookup, class, info),
         None => Ok(Around {
             catches: Items::new(alloc),
             maps: Items::new(alloc),
@@ -121,17 +124,18 @@ fn found_for(
     alloc: Global,
     tables: &ProgramTables,
     names: &IndexSet<&[u8]>,
+    lookup: &Lookup,
     info: &MethodInfo,
     resolved: Items<Resolved>,
 ) -> Result<Found, LinkFault>
     requires names { IsNamesOf tables.now names.now }
-    requires few { length tables.now.classes < 2 ^ 32 }
+    requires indexed { IsIndexed tables.now lookup.now }
     requires coded { IsCoded tables.now info.now }
     requires resolved { resolved ≡ resolved_in tables.now info.now }
     ensures fault { Finds result (around_fault tables.now info.now) }
     ensures found { IfOk result (λ found. found ≡ found_for tables.now info.now) }
 {
-    let around = around_of(alloc, tables, names, info)?;
+    let around = around_of(alloc, tables, names, lookup, info)?;
     Ok(Found {
         signature: signature_of(alloc, tables, names, info)?,
         resolved,
@@ -144,11 +148,12 @@ pub fn found_for_all(
     alloc: Global,
     tables: &ProgramTables,
     names: &IndexSet<&[u8]>,
+    lookup: &Lookup,
     methods: &[MethodInfo],
     resolved: Items<Items<Resolved>>,
 ) -> Result<Items<Found>, LinkFault>
     requires names { IsNamesOf tables.now names.now }
-    requires few { length tables.now.classes < 2 ^ 32 }
+    requires indexed { IsIndexed tables.now lookup.now }
     requires coded { All (IsCoded tables.now) methods.now }
     requires resolved { resolved ≡ map (resolved_in tables.now) methods.now }
     ensures fault { Finds result (first_of (around_fault tables.now) methods.now) }
@@ -160,7 +165,7 @@ pub fn found_for_all(
         let Some(resolved) = rest.next() else {
             return Ok(found);
         };
-        found.push(found_for(alloc, tables, names, info, resolved)?)?;
+        found.push(found_for(alloc, tables, names, lookup, info, resolved)?)?;
     }
     Ok(found)
 }

@@ -7,6 +7,7 @@ ghost use Rattle.nr_linked.specs.declared.program.types.VType.TheVariants as typ
 ghost use Rattle.nr_linked.specs.TypingCalls.{is_uninit_this};
 ghost use Rattle.nr_linked.specs.TypingFrames.{in_places};
 ghost use Rattle.nr_linkrules.specs.Completion.{frame_of, type_of, types_of};
+ghost use Rattle.nr_linkrules.specs.ClassRules.{desc_fault};
 ghost use Rattle.nr_linkrules.specs.Faults.{Finds, first_of};
 ghost use Rattle.nr_linkrules.specs.Layout.{kind_of};
 ghost use Rattle.nr_linkrules.specs.SiteRules.{map_fault, type_fault};
@@ -33,6 +34,27 @@ fn desc_type(tables: &ProgramTables, names: &IndexSet<&[u8]>, desc: &Desc) -> Op
     Some(VType::Class(kind))
 }
 
+/// The type of a class or an array. Its name is looked for twice only where it isn't known.
+#[tactic(auto, using(crate::proofs::Meant::type_known))]
+fn object_type(
+    tables: &ProgramTables,
+    names: &IndexSet<&[u8]>,
+    desc: &Desc,
+) -> Result<Option<VType>, LinkFault>
+    requires names { IsNamesOf tables.now names.now }
+    requires few { length tables.now.classes < 2 ^ 32 }
+    ensures fault { Finds result (desc_fault tables.now desc.now) }
+    ensures found { IfOk result (λ found. found ≡ option_map (λ k. types.Class k) (kind_of tables.now desc.now)) }
+{
+    match desc_type(tables, names, desc) {
+        Some(found) => Ok(Some(found)),
+        None => {
+            check_desc(tables, names, desc)?;
+            Ok(None)
+        }
+    }
+}
+
 /// The verifier's type of a type of a frame map; none where its class isn't known, which is a fault.
 fn type_of(
     tables: &ProgramTables,
@@ -51,10 +73,7 @@ fn type_of(
         MapType::Null => Ok(Some(VType::Null)),
         MapType::UninitThis => Ok(Some(VType::UninitThis)),
         MapType::Uninit(at) => Ok(Some(VType::Uninit(*at))),
-        MapType::Object(desc) => {
-            check_desc(tables, names, desc.get())?;
-            Ok(desc_type(tables, names, desc.get()))
-        }
+        MapType::Object(desc) => object_type(tables, names, desc.get()),
     }
 }
 

@@ -5,11 +5,11 @@ ghost use Rattle.nr_linked.specs.Programs.{class_named};
 ghost use Rattle.nr_linkrules.specs.Layout.{base_of, kind_of, kind_said};
 ghost use Rattle.nr_link.specs.Seen.{IsNamesOf};
 
-use crate::names::number;
 use indexmap::IndexSet;
 use nr_base::{Desc, DescBase, DescFault};
 use nr_linked::{Base, ClassId, Kind, ProgramTables};
 use nr_linkrules::LinkFault;
+use nr_names::number;
 use std::alloc::Global;
 
 /// The number of the class of this name.

@@ -4,23 +4,49 @@ ghost use Rattle.std.specs.Prelude.{◌≡◌, ◌∷◌, ◌++◌, ◌<◌, ◌
 ghost use Rattle.std.specs.List.{filter, flat_map, range_with_len, zip};
 ghost use Rattle.std.specs.Option.{option_to_list};
 ghost use Rattle.nr_linked.specs.Programs.{upward};
-ghost use Rattle.nr_linkrules.specs.Layout.{laid_class, laid_out, numbered, slots_declared, slots_in, slots_read, supers_in};
+ghost use Rattle.nr_linkrules.specs.Layout.{kind_said, laid_class, laid_out, numbered, slots_declared, slots_in, slots_read, supers_in};
+ghost use Rattle.nr_linkrules.specs.Outline.{some_text};
 ghost use Rattle.nr_linkrules.specs.Reaches.{HasSteps, reaches, rows_of};
+ghost use Rattle.nr_prog.specs.Pool.{text_at};
 ghost use Rattle.nr_link.specs.Entries.{HasFieldTexts, slot_or_none};
+ghost use Rattle.nr_link.specs.Meanings.{all_meanings, meanings_of};
 ghost use Rattle.nr_link.specs.Seen.{IsNamesOf};
 ghost use Rattle.nr_link.specs.Laid.{above_in, laid_by};
 
 use crate::closure::reaches;
 use crate::gathering::{push_if, push_some};
 use crate::kinds::kind_said;
+use crate::meanings::{Meaning, all_meanings, meaning_at, meanings_in};
 use crate::names::{name_of, text_bytes};
 use crate::tables::{STATIC, has_flag};
 use indexmap::IndexSet;
 use nr_base::Items;
-use nr_linked::{ClassId, ClassInfo, ProgramTables, SlotInfo};
+use nr_linked::{ClassId, ClassInfo, Kind, ProgramTables, SlotInfo};
 use nr_linkrules::LinkFault;
 use nr_prog::{Class, Field};
 use std::alloc::Global;
+
+/// The kind that the descriptor at an index says. The error is `NoMemory`.
+#[tactic(auto, using(crate::proofs::Meant::kind_is_said, crate::proofs::Meant::no_text))]
+fn kind_of_field(
+    alloc: Global,
+    tables: &ProgramTables,
+    names: &IndexSet<&[u8]>,
+    class: &Class,
+    meanings: &[Option<Meaning>],
+    desc: u16,
+) -> Result<Option<Kind>, LinkFault>
+    requires names { IsNamesOf tables.now names.now }
+    requires few { length tables.now.classes < 2 ^ 32 }
+    requires meanings { meanings.now ≡ meanings_of tables.now class.now.pool }
+    ensures kind { IfOk result (λ kind. kind ≡ kind_said tables.now (some_text (text_at class.now.pool desc))) }
+    ensures err { IsOkUnless result LinkFault.NoMemory }
+{
+    match meaning_at(tables, class, meanings, desc) {
+        Some(meaning) => Ok(meaning.said),
+        None => kind_said(alloc, tables, names, &[]),
+    }
+}
 
 /// The slot of a field of a class; none for a static one.
 #[tactic(auto, unfolding(nr_linkrules::specs::Layout::slot_of))]
@@ -30,10 +56,12 @@ fn slot_of(
     names: &IndexSet<&[u8]>,
     place: ClassId,
     class: &Class,
+    meanings: &[Option<Meaning>],
     field: &Field,
 ) -> Result<Option<SlotInfo>, LinkFault>
     requires names { IsNamesOf tables.now names.now }
     requires few { length tables.now.classes < 2 ^ 32 }
+    requires meanings { meanings.now ≡ meanings_of tables.now class.now.pool }
     requires texts { HasFieldTexts class.now.pool field.now }
     ensures slot { IfOk result (λ slot. slot ≡ slot_or_none tables.now place class.now.pool field.now) }
     ensures err { IsOkUnless result LinkFault.NoMemory }
@@ -41,14 +69,13 @@ fn slot_of(
     if has_flag(field.flags, STATIC) {
         return Ok(None);
     }
-    let desc = text_bytes(class, field.desc);
-    let Some(kind) = kind_said(alloc, tables, names, desc)? else {
+    let Some(kind) = kind_of_field(alloc, tables, names, class, meanings, field.desc)? else {
         return Ok(None);
     };
     Ok(Some(SlotInfo {
         declared_in: place,
         name: name_of(alloc, text_bytes(class, field.name))?,
-        desc: name_of(alloc, desc)?,
+        desc: name_of(alloc, text_bytes(class, field.desc))?,
         kind,
     }))
 }
@@ -61,17 +88,22 @@ fn push_slots_of(
     names: &IndexSet<&[u8]>,
     place: ClassId,
     class: &Class,
+    meanings: &[Option<Meaning>],
     fields: &[Field],
     slots: &mut Items<SlotInfo>,
 ) -> Result<(), LinkFault>
     requires names { IsNamesOf tables.now names.now }
     requires few { length tables.now.classes < 2 ^ 32 }
+    requires meanings { meanings.now ≡ meanings_of tables.now class.now.pool }
     requires texts { All (HasFieldTexts class.now.pool) fields.now }
     ensures added { OnOk result (slots.new ≡ slots.old ++ flat_map (λ f. option_to_list (slot_or_none tables.now place class.now.pool f)) fields.now) }
     ensures err { IsOkUnless result LinkFault.NoMemory }
 {
     for field in fields {
-        push_some(slots, slot_of(alloc, tables, names, place, class, field)?)?;
+        push_some(
+            slots,
+            slot_of(alloc, tables, names, place, class, meanings, field)?,
+        )?;
     }
     Ok(())
 }
@@ -82,11 +114,13 @@ fn push_declared(
     alloc: Global,
     tables: &ProgramTables,
     names: &IndexSet<&[u8]>,
+    all: &[Items<Option<Meaning>>],
     place: ClassId,
     slots: &mut Items<SlotInfo>,
 ) -> Result<(), LinkFault>
     requires names { IsNamesOf tables.now names.now }
     requires few { length tables.now.classes < 2 ^ 32 }
+    requires all { all.now ≡ all_meanings tables.now }
     ensures added { OnOk result (slots.new ≡ slots.old ++ slots_declared tables.now place) }
     ensures err { IsOkUnless result LinkFault.NoMemory }
 {
@@ -96,8 +130,9 @@ fn push_declared(
     let Some(class) = &info.read else {
         return Ok(());
     };
+    let meanings = meanings_in(tables, all, place);
     let fields = class.parts().fields.as_slice();
-    push_slots_of(alloc, tables, names, place, class, fields, slots)
+    push_slots_of(alloc, tables, names, place, class, meanings, fields, slots)
 }
 
 /// Puts the slots of the classes from one upward, at most as many as are left, at the end of the
@@ -107,12 +142,14 @@ fn push_slots(
     alloc: Global,
     tables: &ProgramTables,
     names: &IndexSet<&[u8]>,
+    all: &[Items<Option<Meaning>>],
     left: usize,
     class: Option<ClassId>,
     slots: &mut Items<SlotInfo>,
 ) -> Result<(), LinkFault>
     requires names { IsNamesOf tables.now names.now }
     requires few { length tables.now.classes < 2 ^ 32 }
+    requires all { all.now ≡ all_meanings tables.now }
     ensures added { OnOk result (slots.new ≡ slots.old ++ flat_map (slots_declared tables.now) (reverse (upward tables.now left class))) }
     ensures err { IsOkUnless result LinkFault.NoMemory }
 {
@@ -126,11 +163,12 @@ fn push_slots(
         alloc,
         tables,
         names,
+        all,
         left - 1,
         tables.super_of(class),
         slots,
     )?;
-    push_declared(alloc, tables, names, class, slots)
+    push_declared(alloc, tables, names, all, class, slots)
 }
 
 #[tactic(auto, unfolding(nr_linkrules::specs::Layout::slots_in))]
@@ -138,10 +176,12 @@ fn slots_in(
     alloc: Global,
     tables: &ProgramTables,
     names: &IndexSet<&[u8]>,
+    all: &[Items<Option<Meaning>>],
     class: ClassId,
 ) -> Result<Items<SlotInfo>, LinkFault>
     requires names { IsNamesOf tables.now names.now }
     requires few { length tables.now.classes < 2 ^ 32 }
+    requires all { all.now ≡ all_meanings tables.now }
     ensures slots { IfOk result (λ slots. slots ≡ slots_in tables.now class) }
     ensures err { IsOkUnless result LinkFault.NoMemory }
 {
@@ -150,6 +190,7 @@ fn slots_in(
         alloc,
         tables,
         names,
+        all,
         tables.classes.len(),
         Some(class),
         &mut slots,
@@ -190,10 +231,12 @@ fn laid_parts(
     alloc: Global,
     tables: &ProgramTables,
     names: &IndexSet<&[u8]>,
+    all: &[Items<Option<Meaning>>],
     rows: &[Items<bool>],
 ) -> Result<Items<Laid>, LinkFault>
     requires names { IsNamesOf tables.now names.now }
     requires few { length tables.now.classes < 2 ^ 32 }
+    requires all { all.now ≡ all_meanings tables.now }
     requires rows { rows.now ≡ rows_of tables.now (length tables.now.classes) }
     requires steps { HasSteps tables.now }
     ensures parts { IfOk result (λ parts. parts ≡ map (above_in tables.now) (range_with_len 0 (length tables.now.classes))) }
@@ -203,7 +246,7 @@ fn laid_parts(
     for class in 0..tables.classes.len() as u32 {
         parts.push(Laid {
             supers: supers_in(alloc, tables, rows, class)?,
-            slots: slots_in(alloc, tables, names, class)?,
+            slots: slots_in(alloc, tables, names, all, class)?,
         })?;
     }
     Ok(parts)
@@ -257,7 +300,8 @@ pub fn lay_out(
     ensures tables { IfOk result (λ laid. laid ≡ laid_out tables) }
     ensures err { IsOkUnless result LinkFault.NoMemory }
 {
-    let parts = laid_parts(alloc, &tables, names, rows)?;
+    let all = all_meanings(alloc, &tables, names)?;
+    let parts = laid_parts(alloc, &tables, names, all.as_slice(), rows)?;
     let ProgramTables { classes, methods } = tables;
     Ok(ProgramTables {
         classes: lay_entries(alloc, classes, parts)?,

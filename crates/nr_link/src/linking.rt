@@ -18,19 +18,21 @@ ghost use Rattle.nr_link.specs.Coded.{IsCoded};
 ghost use Rattle.nr_link.specs.Completing.{found_for};
 ghost use Rattle.nr_link.specs.Finished.{finished, later_methods};
 ghost use Rattle.nr_link.specs.Ready.{IsReady};
-ghost use Rattle.nr_link.specs.Seen.{AreApart, IsNamesOf, texts};
+ghost use Rattle.nr_link.specs.Seen.{AreApart, IsNamesOf};
+ghost use Rattle.nr_names.specs.Numbers.{texts};
 
 use crate::above::check_all_above;
 use crate::closure::rows;
 use crate::code::find_in_methods;
 use crate::completion::{Found, complete, found_for_all};
 use crate::cycles::check_cycles;
+use crate::keeping::lookup_of;
 use crate::layout::lay_out;
 use crate::list::check_list;
 use crate::members::check_members;
 use crate::names::{all_names, numbers};
 use crate::outline::outline;
-use crate::room::has_room;
+use crate::room::{has_room, has_slot_room};
 use indexmap::IndexSet;
 use nr_base::{Items, Name};
 use nr_linked::{MethodInfo, Program, ProgramTables};
@@ -96,6 +98,9 @@ fn lay_out_classes(
 {
     let tables = outline(alloc, names, classes)?;
     let rows = check_classes(alloc, &tables, names)?;
+    if !has_slot_room(alloc, &tables)? {
+        return Err(LinkFault::NoMemory);
+    }
     let tables = lay_out(alloc, tables, names, rows.as_slice())?;
     Ok(LaidOut { tables, rows })
 }
@@ -114,8 +119,9 @@ fn find_all(
     ensures fault { Finds result (option_or (first_of (code_fault tables.now) methods.now) (first_of (around_fault tables.now) methods.now)) }
     ensures found { IfOk result (λ found. found ≡ map (found_for tables.now) methods.now) }
 {
-    let resolved = find_in_methods(alloc, tables, names, rows, methods)?;
-    found_for_all(alloc, tables, names, methods, resolved)
+    let lookup = lookup_of(alloc, tables, names, rows)?;
+    let resolved = find_in_methods(alloc, tables, &lookup, methods)?;
+    found_for_all(alloc, tables, names, &lookup, methods, resolved)
 }
 
 /// The tables with what linking finds for the methods.

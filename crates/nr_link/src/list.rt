@@ -7,7 +7,7 @@ ghost use Rattle.nr_linkrules.specs.ClassRules.{doubled_fault, is_earlier, limit
 ghost use Rattle.nr_links.specs.Rules.{is_reserved};
 ghost use Rattle.nr_linkrules.specs.Faults.{Finds, first_numbered, first_of, unless};
 ghost use Rattle.nr_linkrules.specs.Outline.{own_name, own_names};
-ghost use Rattle.nr_link.specs.Seen.{texts};
+ghost use Rattle.nr_names.specs.Numbers.{texts};
 ghost use Rattle.nr_linkrules.specs.declared.fault.LinkFault.TheVariants as faults;
 
 use crate::names::{add, name_of, own_name};

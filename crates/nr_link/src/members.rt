@@ -12,11 +12,13 @@ ghost use Rattle.nr_linkrules.specs.Faults.{Finds, first_numbered, first_of};
 ghost use Rattle.nr_linkrules.specs.LinkFaults.{first_class_fault, on_loaded};
 ghost use Rattle.nr_linkrules.specs.Reaches.{HasSteps, rows_of};
 ghost use Rattle.nr_link.specs.Finals.{finals_of};
+ghost use Rattle.nr_link.specs.Meanings.{meanings_of};
 ghost use Rattle.nr_link.specs.Seen.{IsNamesOf};
 
 use crate::above::copied;
 use crate::finals::{Finals, check_overrides, finals_of};
 use crate::known::{check_field, check_method};
+use crate::meanings::{Meaning, meanings_of};
 use crate::tables::{ABSTRACT, PUBLIC, STATIC, has_flag};
 use indexmap::IndexSet;
 use nr_base::Items;
@@ -69,13 +71,15 @@ fn check_each_field(
     tables: &ProgramTables,
     names: &IndexSet<&[u8]>,
     class: &Class,
+    meanings: &[Option<Meaning>],
     fields: &[Field],
 ) -> Result<(), LinkFault>
     requires names { IsNamesOf tables.now names.now }
+    requires meanings { meanings.now ≡ meanings_of tables.now class.now.pool }
     ensures { Finds result (first_of (λ f. field_fault tables.now class.now.pool f.desc) fields.now) }
 {
     for field in fields {
-        check_field(alloc, tables, names, class, field.desc)?;
+        check_field(alloc, tables, names, class, meanings, field.desc)?;
     }
     Ok(())
 }
@@ -86,13 +90,15 @@ fn check_each_method(
     tables: &ProgramTables,
     names: &IndexSet<&[u8]>,
     class: &Class,
+    meanings: &[Option<Meaning>],
     methods: &[Method],
 ) -> Result<(), LinkFault>
     requires names { IsNamesOf tables.now names.now }
+    requires meanings { meanings.now ≡ meanings_of tables.now class.now.pool }
     ensures { Finds result (first_of (λ m. method_fault tables.now class.now.pool m.desc) methods.now) }
 {
     for method in methods {
-        check_method(alloc, tables, names, class, method.desc)?;
+        check_method(alloc, tables, names, class, meanings, method.desc)?;
     }
     Ok(())
 }
@@ -102,12 +108,14 @@ fn check_fields(
     tables: &ProgramTables,
     names: &IndexSet<&[u8]>,
     class: &Class,
+    meanings: &[Option<Meaning>],
 ) -> Result<(), LinkFault>
     requires names { IsNamesOf tables.now names.now }
+    requires meanings { meanings.now ≡ meanings_of tables.now class.now.pool }
     ensures { Finds result (first_of (λ f. field_fault tables.now class.now.pool f.desc) class.now.fields) }
 {
     let fields = class.parts().fields.as_slice();
-    check_each_field(alloc, tables, names, class, fields)
+    check_each_field(alloc, tables, names, class, meanings, fields)
 }
 
 fn check_methods(
@@ -115,12 +123,14 @@ fn check_methods(
     tables: &ProgramTables,
     names: &IndexSet<&[u8]>,
     class: &Class,
+    meanings: &[Option<Meaning>],
 ) -> Result<(), LinkFault>
     requires names { IsNamesOf tables.now names.now }
+    requires meanings { meanings.now ≡ meanings_of tables.now class.now.pool }
     ensures { Finds result (first_of (λ m. method_fault tables.now class.now.pool m.desc) class.now.methods) }
 {
     let methods = class.parts().methods.as_slice();
-    check_each_method(alloc, tables, names, class, methods)
+    check_each_method(alloc, tables, names, class, meanings, methods)
 }
 
 /// Looks for the classes of the descriptors of the class's members, fields first.
@@ -132,10 +142,13 @@ fn check_types(
     class: &Class,
 ) -> Result<(), LinkFault>
     requires names { IsNamesOf tables.now names.now }
+    requires few { length tables.now.classes < 2 ^ 32 }
     ensures { Finds result (option_or (first_of (λ f. field_fault tables.now class.now.pool f.desc) class.now.fields) (first_of (λ m. method_fault tables.now class.now.pool m.desc) class.now.methods)) }
 {
-    check_fields(alloc, tables, names, class)?;
-    check_methods(alloc, tables, names, class)
+    let meanings = meanings_of(alloc, tables, names, class)?;
+    let meanings = meanings.as_slice();
+    check_fields(alloc, tables, names, class, meanings)?;
+    check_methods(alloc, tables, names, class, meanings)
 }
 
 #[tactic(auto, using(crate::proofs::Walks::fails_first), unfolding(nr_linkrules::specs::ClassRules::members_fault))]

@@ -9,7 +9,8 @@ ghost use Rattle.nr_prog.specs.Form.{NamesClass};
 ghost use Rattle.nr_prog.specs.Pool.{text_at};
 ghost use Rattle.nr_linked.specs.BuiltIns.{built_in_class};
 ghost use Rattle.nr_linkrules.specs.Outline.{names_of, number_in, own_name, own_names, some_text};
-ghost use Rattle.nr_link.specs.Seen.{AreApart, texts};
+ghost use Rattle.nr_link.specs.Seen.{AreApart};
+ghost use Rattle.nr_names.specs.Numbers.{texts};
 
 use crate::built_in::{built_in_name, built_ins};
 use indexmap::IndexSet;
@@ -58,7 +59,7 @@ pub fn name_of(alloc: Global, bytes: &[u8]) -> Result<Name, LinkFault>
 }
 
 /// Adds a name, and says whether it is new.
-#[tactic(auto, unfolding(crate::specs::Seen::texts))]
+#[tactic(auto, unfolding(nr_names::specs::Numbers::texts))]
 pub fn add<'a>(
     names: &mut IndexSet<&'a [u8]>,
     name: &'a [u8],
@@ -79,15 +80,6 @@ pub fn class_name_at(class: &Class, index: u16) -> &[u8]
     ensures short { length result.now < 2 ^ 16 }
 {
     class_bytes(class, index)
-}
-
-/// The number of the class of this name.
-#[tactic(auto, unfolding(crate::specs::Seen::texts))]
-pub fn number(names: &IndexSet<&[u8]>, name: &[u8]) -> Option<usize>
-    ensures number { result ≡ number_in (texts names.now) name.now }
-    ensures within { IfSome result (λ n. n < length (texts names.now)) }
-{
-    names.get_index_of(&name)
 }
 
 /// The text at an index of the constant pool; none where none stands there.

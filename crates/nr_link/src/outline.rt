@@ -8,31 +8,33 @@ ghost use Rattle.nr_prog.specs.Pool.{text_at};
 ghost use Rattle.nr_links.specs.Entries.{method_count};
 ghost use Rattle.nr_linkrules.specs.Outline.{class_number, names_of, outline, outline_class, outline_classes, outline_method, outline_methods, some_text};
 ghost use Rattle.nr_link.specs.Entries.{HasTexts, numbers_of};
-ghost use Rattle.nr_link.specs.Seen.{texts};
+ghost use Rattle.nr_names.specs.Numbers.{numbers_of as text_numbers, texts};
 
 use crate::built_in::add_built_ins;
 use crate::built_in_methods::add_built_in_methods;
 use crate::gathering::push_some;
-use crate::names::{name_of, number, own_name, text_bytes};
+use crate::names::{name_of, own_name, text_bytes};
 use indexmap::IndexSet;
 use nr_base::{Items, Name};
 use nr_linked::{ClassId, ClassInfo, MethodId, MethodInfo, ProgramTables};
 use nr_linkrules::LinkFault;
+use nr_names::{number_at, numbers_of as text_numbers};
 use nr_prog::{Body, Class, Code, Loaded, Method, PoolEntry};
 use std::alloc::Global;
 
-/// The number of the class that the index names.
-#[tactic(auto, unfolding(nr_prog::specs::BodyNames::class_text_at))]
-fn class_number(names: &IndexSet<&[u8]>, class: &Class, index: u16) -> Option<ClassId>
-    requires few { length (texts names.now) < 2 ^ 32 }
+/// The number of the class that the index names, by the numbers of the texts of the constant pool.
+#[tactic(auto, using(nr_names::proofs::Numbering::numbered_at), unfolding(nr_prog::specs::BodyNames::class_text_at))]
+pub fn class_number(
+    names: &IndexSet<&[u8]>,
+    numbers: &[Option<u32>],
+    class: &Class,
+    index: u16,
+) -> Option<ClassId>
+    requires numbers { numbers.now ≡ text_numbers (texts names.now) class.now.pool }
     ensures { result ≡ class_number (texts names.now) class.now.pool index }
 {
     match class.entry(index) {
-        Some(PoolEntry::Class(name)) => {
-            let text = class.text(*name)?;
-            let number = number(names, text)?;
-            Some(number as u32)
-        }
+        Some(PoolEntry::Class(name)) => number_at(numbers, *name),
         _ => None,
     }
 }
@@ -41,18 +43,19 @@ fn class_number(names: &IndexSet<&[u8]>, class: &Class, index: u16) -> Option<Cl
 fn numbers_of(
     alloc: Global,
     names: &IndexSet<&[u8]>,
+    numbers: &[Option<u32>],
     class: &Class,
     indices: &[u16],
 ) -> Result<Items<ClassId>, LinkFault>
-    requires few { length (texts names.now) < 2 ^ 32 }
-    ensures numbers { IfOk result (λ numbers. numbers ≡ numbers_of (texts names.now) class.now.pool indices.now) }
+    requires numbers { numbers.now ≡ text_numbers (texts names.now) class.now.pool }
+    ensures numbers { IfOk result (λ found. found ≡ numbers_of (texts names.now) class.now.pool indices.now) }
     ensures err { IsOkUnless result LinkFault.NoMemory }
 {
-    let mut numbers = Items::new(alloc);
+    let mut found = Items::new(alloc);
     for index in indices {
-        push_some(&mut numbers, class_number(names, class, *index))?;
+        push_some(&mut found, class_number(names, numbers, class, *index))?;
     }
-    Ok(numbers)
+    Ok(found)
 }
 
 /// The entry of a class, whose first method has this number.
@@ -70,8 +73,10 @@ fn outline_class(
     let parts = class.parts();
     let flags = parts.flags;
     let methods = parts.methods.len() as u32;
-    let super_class = class_number(names, &class, parts.super_class);
-    let interfaces = numbers_of(alloc, names, &class, parts.interfaces.as_slice())?;
+    let numbers = text_numbers(alloc, names, parts.pool.as_slice())?;
+    let numbers = numbers.as_slice();
+    let super_class = class_number(names, numbers, &class, parts.super_class);
+    let interfaces = numbers_of(alloc, names, numbers, &class, parts.interfaces.as_slice())?;
     Ok(ClassInfo {
         name: name_of(alloc, own_name(&class))?,
         flags,

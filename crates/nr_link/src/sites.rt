@@ -1,6 +1,6 @@
 //! What linking finds for an instruction (JVM Specification 5.4.3 and 6.5).
 
-ghost use Rattle.std.specs.Prelude.{◌≡◌, ◌<◌, ◌^◌, length, not, ◌&&◌, false, Ok};
+ghost use Rattle.std.specs.Prelude.{◌≡◌, not, ◌&&◌, false, Ok, Some};
 ghost use Rattle.std.specs.Option.{option_map_or};
 ghost use Rattle.nr_base.specs.Clauses.{GivesWhole};
 ghost use Rattle.nr_instrs.specs.Checks.{then_on};
@@ -10,20 +10,19 @@ ghost use Rattle.nr_linked.specs.TypingFacts.{is_makeable};
 ghost use Rattle.nr_links.specs.Found.{index_in};
 ghost use Rattle.nr_linkrules.specs.Faults.{is_free};
 ghost use Rattle.nr_linkrules.specs.SiteRules.{constant_found, found_by, instr_found, kind_at, made_found, on_entry, place_in};
-ghost use Rattle.nr_link.specs.Leading.{LeadAsInterfaces};
+ghost use Rattle.nr_link.specs.Coded.{read_class};
+ghost use Rattle.nr_link.specs.Lookups.{IsIndexed};
 ghost use Rattle.nr_link.specs.Naming.{HasNames, IsNamedBy};
-ghost use Rattle.nr_link.specs.Ready.{IsReady};
-ghost use Rattle.nr_link.specs.Seen.{IsNamesOf};
 
 mod calls;
+mod member;
 mod place;
 mod slots;
 
+use crate::lookup::Lookup;
 use crate::named::kind_at;
 use crate::tables::{ABSTRACT, has_flag};
 use calls::find_call;
-use indexmap::IndexSet;
-use nr_base::Items;
 use nr_linked::{Base, ClassId, Kind, MethodInfo, ProgramTables, Resolved};
 use nr_linkrules::LinkFault;
 use nr_optable::Family;
@@ -75,18 +74,18 @@ fn can_make(tables: &ProgramTables, kind: Kind) -> bool
 fn find_made(
     alloc: Global,
     tables: &ProgramTables,
-    names: &IndexSet<&[u8]>,
+    lookup: &Lookup,
     info: &MethodInfo,
     class: &Class,
     at: u16,
     index: u16,
 ) -> Result<Resolved, LinkFault>
-    requires names { IsNamesOf tables.now names.now }
-    requires few { length tables.now.classes < 2 ^ 32 }
+    requires indexed { IsIndexed tables.now lookup.now }
+    requires here { Some class.now ≡ read_class tables.now info.now.«class» }
     requires named { NamesAnyClass class.now.pool index }
     ensures { GivesWhole is_free result (then_on (kind_at tables.now class.now.pool index) (made_found tables.now (place_in tables.now info.now at))) }
 {
-    let kind = kind_at(alloc, tables, names, class, index)?;
+    let kind = kind_at(alloc, tables, lookup, info.class, class, index)?;
     if can_make(tables, kind) {
         return Ok(Resolved::Kind(kind));
     }
@@ -98,16 +97,14 @@ fn find_made(
 fn find_by(
     alloc: Global,
     tables: &ProgramTables,
-    names: &IndexSet<&[u8]>,
-    rows: &[Items<bool>],
-    lists: &[Items<ClassId>],
+    lookup: &Lookup,
     info: &MethodInfo,
     class: &Class,
     instr: &Instr,
     index: u16,
 ) -> Result<Resolved, LinkFault>
-    requires ready { IsReady tables.now names.now rows.now }
-    requires lists { LeadAsInterfaces lists.now tables.now }
+    requires indexed { IsIndexed tables.now lookup.now }
+    requires here { Some class.now ≡ read_class tables.now info.now.«class» }
     requires named { IsNamedBy class.now.pool index instr.now.row.family }
     ensures { GivesWhole is_free result (found_by tables.now (place_in tables.now info.now instr.now.at) class.now.pool instr.now.row.code index instr.now.row.family) }
 {
@@ -115,15 +112,11 @@ fn find_by(
     let code = instr.row.code;
     match instr.row.family {
         Family::F8 => Ok(constant(class, index)),
-        Family::F30 | Family::F31 => find_slot(
-            alloc, tables, names, rows, lists, info, class, at, index,
-        ),
-        Family::F32 => find_call(
-            alloc, tables, names, rows, lists, info, class, at, code, index,
-        ),
-        Family::F33 => find_made(alloc, tables, names, info, class, at, index),
+        Family::F30 | Family::F31 => find_slot(alloc, tables, lookup, info, class, at, index),
+        Family::F32 => find_call(alloc, tables, lookup, info, class, at, code, index),
+        Family::F33 => find_made(alloc, tables, lookup, info, class, at, index),
         Family::F34 | Family::F37 => {
-            Ok(Resolved::Kind(kind_at(alloc, tables, names, class, index)?))
+            Ok(Resolved::Kind(kind_at(alloc, tables, lookup, info.class, class, index)?))
         }
         _ => Ok(Resolved::Nothing),
     }
@@ -140,20 +133,18 @@ fn find_by(
 pub fn find(
     alloc: Global,
     tables: &ProgramTables,
-    names: &IndexSet<&[u8]>,
-    rows: &[Items<bool>],
-    lists: &[Items<ClassId>],
+    lookup: &Lookup,
     info: &MethodInfo,
     class: &Class,
     instr: &Instr,
 ) -> Result<Resolved, LinkFault>
-    requires ready { IsReady tables.now names.now rows.now }
-    requires lists { LeadAsInterfaces lists.now tables.now }
+    requires indexed { IsIndexed tables.now lookup.now }
+    requires here { Some class.now ≡ read_class tables.now info.now.«class» }
     requires named { HasNames class.now.pool instr.now }
     ensures { GivesWhole is_free result (instr_found tables.now (place_in tables.now info.now) class.now.pool instr.now) }
 {
     match index_in(&instr.args) {
-        Some(index) => find_by(alloc, tables, names, rows, lists, info, class, instr, index),
+        Some(index) => find_by(alloc, tables, lookup, info, class, instr, index),
         None => Ok(Resolved::Nothing),
     }
 }

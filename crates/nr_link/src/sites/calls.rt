@@ -1,6 +1,6 @@
 //! Methods that instructions name.
 
-ghost use Rattle.std.specs.Prelude.{◌≡◌, ◌<◌, ◌^◌, length, false, ℕ, IfSome};
+ghost use Rattle.std.specs.Prelude.{◌≡◌, Some, false, ℕ, IfSome};
 ghost use Rattle.std.specs.Option.{option_map_or};
 ghost use Rattle.nr_base.specs.Clauses.{GivesWhole};
 ghost use Rattle.nr_instrs.specs.Checks.{then_on};
@@ -9,19 +9,19 @@ ghost use Rattle.nr_prog.specs.Pool.{entry_at};
 ghost use Rattle.nr_linked.specs.Initialisers.{is_initialiser};
 ghost use Rattle.nr_linked.specs.Programs.{method_at};
 ghost use Rattle.nr_linkrules.specs.Faults.{is_free};
-ghost use Rattle.nr_linkrules.specs.Reaches.{HasSteps, rows_of};
 ghost use Rattle.nr_linkrules.specs.SiteRules.{Place as SpecPlace, by_member, callable, can_call, method_found, no_method, on_entry, on_member, or_fault, place_in};
-ghost use Rattle.nr_link.specs.Leading.{LeadAsInterfaces};
 ghost use Rattle.nr_link.specs.Naming.{IsMemberNamed};
-ghost use Rattle.nr_link.specs.Ready.{IsReady};
+ghost use Rattle.nr_link.specs.Coded.{read_class};
+ghost use Rattle.nr_link.specs.Lookups.{IsIndexed, IsSought};
+ghost use Rattle.nr_names.specs.Numbers.{texts};
 
-use super::place::{Place, member_at, member_desc, member_name, place_of};
+use super::member::sought_at;
+use super::place::{Place, member_at, place_of};
 use super::slots::class_with_members;
+use crate::lookup::{Lookup, Sought};
 use crate::methods::resolved_method;
 use crate::named::kind_at;
 use crate::tables::{STATIC, has_flag, is_above};
-use indexmap::IndexSet;
-use nr_base::Items;
 use nr_linked::{ClassId, Kind, MethodId, MethodInfo, ProgramTables, Resolved};
 use nr_linkrules::LinkFault;
 use nr_prog::Class;
@@ -77,24 +77,19 @@ fn is_callable(
 /// The method of the class or the array, with the class that has it. An array has no initialiser.
 fn method_named(
     tables: &ProgramTables,
-    rows: &[Items<bool>],
-    lists: &[Items<ClassId>],
+    lookup: &Lookup,
+    sought: &Sought,
     kind: Kind,
-    name: &[u8],
-    desc: &[u8],
 ) -> Option<(MethodId, ClassId)>
-    requires few { length tables.now.classes < 2 ^ 32 }
-    requires few_methods { length tables.now.methods < 2 ^ 32 }
-    requires rows { rows.now ≡ rows_of tables.now (length tables.now.classes) }
-    requires steps { HasSteps tables.now }
-    requires lists { LeadAsInterfaces lists.now tables.now }
-    ensures { (p : SpecPlace) (code : ℕ) → method_found tables.now p code name.now desc.now kind ≡ then_on (or_fault (no_method p) result) (λ m. callable tables.now p code m.1 m.0) }
+    requires indexed { IsIndexed tables.now lookup.now }
+    requires sought { IsSought (texts lookup.now.texts) sought.now }
+    ensures { (p : SpecPlace) (code : ℕ) → method_found tables.now p code sought.now.name.now sought.now.desc.now kind ≡ then_on (or_fault (no_method p) result) (λ m. callable tables.now p code m.1 m.0) }
 {
     let class = class_with_members(tables, kind)?;
-    if kind.dims > 0 && name == b"<init>".as_slice() {
+    if kind.dims > 0 && sought.name == b"<init>".as_slice() {
         return None;
     }
-    let method = resolved_method(tables, rows, lists, class, name, desc)?;
+    let method = resolved_method(tables, lookup, sought, class)?;
     Some((method, class))
 }
 
@@ -102,9 +97,7 @@ fn method_named(
 fn call_of_member(
     alloc: Global,
     tables: &ProgramTables,
-    names: &IndexSet<&[u8]>,
-    rows: &[Items<bool>],
-    lists: &[Items<ClassId>],
+    lookup: &Lookup,
     info: &MethodInfo,
     class: &Class,
     at: u16,
@@ -112,14 +105,14 @@ fn call_of_member(
     named: u16,
     member: u16,
 ) -> Result<Resolved, LinkFault>
-    requires ready { IsReady tables.now names.now rows.now }
-    requires lists { LeadAsInterfaces lists.now tables.now }
+    requires indexed { IsIndexed tables.now lookup.now }
+    requires here { Some class.now ≡ read_class tables.now info.now.«class» }
     requires named { NamesAnyClass class.now.pool named }
     ensures { GivesWhole is_free result (on_member tables.now class.now.pool (method_found tables.now (place_in tables.now info.now at) code) named member) }
 {
-    let kind = kind_at(alloc, tables, names, class, named)?;
-    let name = member_name(class, member);
-    match method_named(tables, rows, lists, kind, name, member_desc(class, member)) {
+    let kind = kind_at(alloc, tables, lookup, info.class, class, named)?;
+    let sought = sought_at(tables, lookup, info.class, class, member);
+    match method_named(tables, lookup, &sought, kind) {
         Some((method, holder)) if is_callable(tables, info.class, code, holder, method) => {
             Ok(Resolved::Method(method, holder))
         }
@@ -138,25 +131,21 @@ fn call_of_member(
 pub fn find_call(
     alloc: Global,
     tables: &ProgramTables,
-    names: &IndexSet<&[u8]>,
-    rows: &[Items<bool>],
-    lists: &[Items<ClassId>],
+    lookup: &Lookup,
     info: &MethodInfo,
     class: &Class,
     at: u16,
     code: u8,
     index: u16,
 ) -> Result<Resolved, LinkFault>
-    requires ready { IsReady tables.now names.now rows.now }
-    requires lists { LeadAsInterfaces lists.now tables.now }
+    requires indexed { IsIndexed tables.now lookup.now }
+    requires here { Some class.now ≡ read_class tables.now info.now.«class» }
     requires named { IfSome (entry_at class.now.pool index) (IsMemberNamed class.now.pool) }
     ensures { GivesWhole is_free result (on_entry (by_member tables.now class.now.pool (method_found tables.now (place_in tables.now info.now at) code)) class.now.pool index) }
 {
     match member_at(class, index) {
         Some((named, member)) => {
-            call_of_member(
-                alloc, tables, names, rows, lists, info, class, at, code, named, member,
-            )
+            call_of_member(alloc, tables, lookup, info, class, at, code, named, member)
         }
         None => Ok(Resolved::Nothing),
     }

@@ -7,7 +7,7 @@ use Rattle.nr_link.proofs.code.find_in_methods.Goals as goal
 
 pub returns-in_err-find_in_method-clause-fault : goal.returns-in_err-find_in_method-clause-fault
 returns-in_err-find_in_method-clause-fault c =
-    let p = err_from_is_err_and c.from_residual-in_err-find_in_method.result c.from_residual-in_err-find_in_method.ensures.1 in
+    let p = err_from_is_err_and c.from_residual.result c.from_residual.ensures.1 in
     rw (p.1, p.2) (fails_at_of (code_fault c.args.tables.now) _ c.args.methods.now c.info-item.result _ _ c.loop-info-test.true c.info-item.is c.in_err-find_in_method.ensures.fault c.loop-info.invariant.fault)
 
 pub loop-info-preserved : goal.loop-info-preserved

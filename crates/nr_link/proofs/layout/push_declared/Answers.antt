@@ -1,5 +1,8 @@
 use Rattle.std.proofs.Common.{◌≡◌, ◌++◌, sym, ap, subst, ◌∙◌}
-use Rattle.std.specs.Prelude.{All, List, OnOk}
+use Rattle.std.specs.Prelude.{All, List, OnOk, Option}
+use Rattle.std.specs.Option.{option_and_then}
+use Rattle.nr_linked.specs.declared.program.tables.ClassInfo.{ClassInfo}
+use Rattle.nr_link.proofs.Meant.{meant_here}
 use Rattle.nr_prog.specs.declared.member.Field.{Field}
 use Rattle.nr_prog.specs.declared.parts.ClassParts.{ClassParts}
 use Rattle.nr_linked.specs.declared.program.tables.SlotInfo.{SlotInfo}
@@ -12,6 +15,11 @@ pub push_slots_of-requires-clause-texts : goal.push_slots_of-requires-clause-tex
 push_slots_of-requires-clause-texts c =
     let e = c.as_slice-fields.ensures ∙ ap (λ (p : ClassParts). p.fields) c.parts.ensures.parts in
     subst (λ (fs : List Field). All (HasFieldTexts c.in-Some-read.class.pool) fs) (sym e) (have_field_texts c.in-Some-read.class c.parts.ensures.formed)
+
+pub push_slots_of-requires-clause-meanings : goal.push_slots_of-requires-clause-meanings
+push_slots_of-requires-clause-meanings c =
+    meant_here c.args.tables.now c.args.place c.in-Some-read.class c.meanings_in-meanings.result.now
+    (sym (ap (λ (o : Option ClassInfo). option_and_then (λ (e : ClassInfo). e.read) o) (sym c.in-Some.ensures) ∙ c.in-Some-read.is)) c.meanings_in-meanings.ensures
 
 pub returns-clause-added : goal.returns-clause-added
 returns-clause-added c =

@@ -1,4 +1,4 @@
-use Rattle.nr_link.specs.Seen.{texts}
+use Rattle.nr_names.specs.Numbers.{texts}
 use Rattle.nr_link.proofs.LinkedPrograms.{names_at}
 use Rattle.nr_link.proofs.linking.lay_out_classes.Goals as goal
 

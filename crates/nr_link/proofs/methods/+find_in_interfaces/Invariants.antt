@@ -6,4 +6,4 @@ abbrev pub decreases-find_in_interfaces : goal.decreases-find_in_interfaces
 decreases-find_in_interfaces l = l.left
 
 abbrev pub invariant-loop-class : goal.invariant-loop-class
-invariant-loop-class l = Left l.tables (declares_method l.tables l.name l.desc) l.left l.interfaces l.class-index
+invariant-loop-class l = Left l.tables (declares_method l.tables l.sought.name.now l.sought.desc.now) l.left l.interfaces l.class-index

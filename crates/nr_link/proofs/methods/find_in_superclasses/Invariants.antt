@@ -7,5 +7,5 @@ abbrev pub invariant-loop-class : goal.invariant-loop-class
 invariant-loop-class l =
     (goal.iterator-loop-class).can_next l.class-iterator ×
     (goal.iterator-loop-class).is_finite l.class-iterator ×
-    (find (declares_method l.tables l.name l.desc) (upward l.class-iterator.tables.now l.class-iterator.left l.class-iterator.next)
-    ≡ find (declares_method l.tables l.name l.desc) (superclasses l.tables l.fn.class))
+    (find (declares_method l.tables l.sought.name.now l.sought.desc.now) (upward l.class-iterator.tables.now l.class-iterator.left l.class-iterator.next)
+    ≡ find (declares_method l.tables l.sought.name.now l.sought.desc.now) (superclasses l.tables l.fn.class))

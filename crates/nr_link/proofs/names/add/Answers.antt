@@ -1,5 +1,5 @@
 use Rattle.std.proofs.Common.{◌∙◌, ap, not}
-use Rattle.nr_link.specs.Seen.{texts}
+use Rattle.nr_names.specs.Numbers.{texts}
 use Rattle.nr_linkrules.proofs.NameLaws.{any_text}
 use Rattle.nr_link.proofs.names.add.Goals as goal
 

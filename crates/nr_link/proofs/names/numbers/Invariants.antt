@@ -1,5 +1,5 @@
 use Rattle.std.proofs.Common.{◌≡◌, take}
-use Rattle.nr_link.specs.Seen.{texts}
+use Rattle.nr_names.specs.Numbers.{texts}
 use Rattle.nr_link.proofs.names.numbers.Given as goal
 
 abbrev pub invariant-loop-name : goal.invariant-loop-name

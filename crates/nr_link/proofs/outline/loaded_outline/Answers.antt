@@ -1,6 +1,6 @@
 use Rattle.std.proofs.Common.{ap, length, arith}
 use Rattle.std.specs.Vec.Iter.{into_iter_items, into_iter_len}
-use Rattle.nr_link.specs.Seen.{texts}
+use Rattle.nr_names.specs.Numbers.{texts}
 use Rattle.nr_link.proofs.Outlines.{all_classes, all_methods, goes_on}
 use Rattle.nr_link.proofs.outline.loaded_outline.Goals as goal
 
