@@ -30,7 +30,12 @@ execution_of a = record {
   last = a.last;
 }
 
+-- the selections are those of the program
+pub record AreOf (selections P : ProgramTables) : Type 0 where
+  pub same : selections ≡ P
+
 pub record IsMachine (a : Inside) : Type 0 where
   pub stack : IsStack a.program.now a.stack.frames.items a.stack.values.items
   pub in_budget : a.steps ≤ a.budget
+  pub selections : AreOf a.selections a.program.now
   pub few_printed : length a.printed.items ≤ max_printed

@@ -5,7 +5,7 @@ use Rattle.nr_model.specs.Heaps.{Heap, cells}
 use Rattle.nr_model.specs.States.{State, IsEnd}
 use Rattle.nr_model.specs.States as states
 use Rattle.nr_model.specs.Steps.{Step}
-use Rattle.nr_model.specs.Outcomes.{Fate, passed}
+use Rattle.nr_model.specs.Outcomes.{Fate, max_cells, passed}
 use Rattle.nr_model.specs.Outcomes as outcomes
 use Rattle.nr_model.specs.Asks.{Asks, Entry}
 use Rattle.nr_model.specs.LimitedRuns.{LimitedRun}
@@ -30,9 +30,9 @@ pub record StopsBefore (n made : ℕ) (h : Heap) (x : Execution) (Q : State → 
 abbrev pub StopsAt : Fate → ℕ → ℕ → Heap → Execution → Type 0
 StopsAt fate n made h x = StopsBefore n made h x (λ t. passed x.program t ≡ Some fate)
 
--- the step takes memory: it makes an object or an array, or prints
+-- the step takes memory: it makes an object or an array, for which the heap isn't full, or prints
 abbrev pub TakesMemory : State → State → Type 0
-TakesMemory s t = (cells s.heap < cells t.heap) ⊎ (length s.printed < length t.printed)
+TakesMemory s t = ((cells s.heap < cells t.heap) × (cells t.heap ≤ max_cells)) ⊎ (length s.printed < length t.printed)
 
 -- Why a turn of n steps, of which so many were made, ends with the answer where the machine stands now.
 abbrev pub EndsTurn : ℕ → ℕ → Heap → Execution → Turn → Type 0

@@ -5,6 +5,7 @@
 mod answer;
 mod law;
 mod machine;
+mod printing;
 mod stack;
 
 pub use answer::{ResumeFault, StartFault, Turn};

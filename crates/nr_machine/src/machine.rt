@@ -11,12 +11,14 @@ ghost use Rattle.nr_model.specs.Types.{argument_tys};
 ghost use Rattle.nr_machine.specs.Executions.{Stands, Starts};
 
 mod asked;
+mod going;
 
 use super::answer::{StartFault, Turn};
-use super::stack::CallStack;
+use super::stack::{CallStack, is_first_too_deep};
 use nr_heap::Heap;
 use nr_linked::{ClassId, MethodId, Verified};
 use nr_model::Value;
+use nr_step::Selections;
 use std::alloc::Global;
 use std::marker::Model;
 
@@ -28,6 +30,7 @@ pub struct Machine<'p> {
     service: Option<ClassId>,
     budget: u64,
     steps: u64,
+    selections: Selections<'p>,
     stack: CallStack,
     printed: Vec<u8>,
     last: Option<Turn>,
@@ -48,9 +51,10 @@ impl<'p> Model for Machine<'p> {
 impl<'p> Machine<'p> {
     /// A machine at the start of a method with code, with its arguments, the receiver first where it has one.
     /// With a service, the machine asks for the answers of calls of that class's remote methods: the public
-    /// static methods that it declares. Room for the frames and values of the whole run is made here.
-    /// `TooDeep` exactly where the first frame alone has more than 65,536 value slots; `NoMemory` for want of
-    /// memory.
+    /// static methods that it declares. Room for the frames and values of the whole run is made here, and for a
+    /// memory of selections.
+    /// `TooDeep` exactly where the first frame alone has more than 65,536 value slots; else `NoMemory` for want
+    /// of memory.
     pub fn start(
         alloc: Global,
         p: &'p Verified,
@@ -68,18 +72,25 @@ impl<'p> Machine<'p> {
         ensures room { IfOk result (λ x. is_too_deep p.now x.control ≡ false) }
         ensures too_deep { result ≡ Err StartFault.TooDeep → (s : State)
             → Begins p.now heap.now.objects method (reverse args.now) s → is_too_deep p.now s.control ≡ true }
+        ensures over { (s : State) → Begins p.now heap.now.objects method (reverse args.now) s
+            → is_too_deep p.now s.control ≡ true → result ≡ Err StartFault.TooDeep }
     {
         let program = p.program();
         let _facts = program.tables();
+        if is_first_too_deep(program, method) {
+            return Err(StartFault::TooDeep);
+        }
+        let selections = Selections::new(alloc, program)?;
         let mut stack = CallStack::new(alloc)?;
         if !stack.begin(program, method, args) {
-            return Err(StartFault::TooDeep);
+            unreachable!()
         }
         Ok(Machine {
             program: p,
             service,
             budget,
             steps: 0,
+            selections,
             stack,
             printed: Vec::new(alloc),
             last: None,

@@ -4,6 +4,7 @@ ghost use Rattle.std.specs.Prelude.{◌≡◌, ◌⊎◌, ◌↔◌, ◌+◌, �
 ghost use Rattle.std.specs.Vec.{vec_capacity};
 ghost use Rattle.nr_model.specs.Outcomes.{max_frames, max_value_slots};
 
+mod advance;
 mod arguments;
 mod asked;
 mod begin;
@@ -11,11 +12,20 @@ mod enter;
 mod give;
 mod handlers;
 mod leave;
+mod places;
+mod print;
+mod print_chars;
+mod settle;
+mod stay;
 mod unwind;
 
+pub use advance::Advance;
+pub use begin::is_first_too_deep;
 pub use enter::operand_count;
 use nr_linked::MethodId;
 use nr_model::Value;
+pub use print::{MAX_PRINTED, Printing};
+pub use stay::Stay;
 use std::alloc::{AllocError, Global};
 
 /// The frames that a run may have.
@@ -57,6 +67,7 @@ impl CallStack {
     }
 
     /// Whether one more frame, with so many value slots, would pass a limit.
+    #[inline(always)]
     pub fn is_full(&self, slots: usize) -> bool
         requires { slots < 2 ^ 32 }
         ensures { IsTrue result ↔ ((max_frames < length self.now.frames.items + 1)

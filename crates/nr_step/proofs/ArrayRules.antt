@@ -1,5 +1,5 @@
 -- Instructions on arrays: what their rules ask of the operands and of the heap.
-use Rattle.std.proofs.Common.{◌≡◌, ℕ, zero, suc, ◌<◌, ℤ, pos, negsuc, List, [], ◌∷◌, length, Option, Some, None, IsSomeAnd, refl, sym, subst, ap, ◌∙◌, Bool, true, false, cond, slice_get, nat_lt, ltb-true, rules}
+use Rattle.std.proofs.Common.{◌≡◌, ℕ, zero, suc, ◌<◌, ℤ, pos, negsuc, List, ◌∷◌, length, Option, Some, None, IsSomeAnd, refl, sym, subst, ap, ◌∙◌, Bool, true, false, cond, slice_get, nat_lt, ltb-true, rules}
 use Rattle.std.specs.FinMap.{get}
 use Rattle.nr_optable.specs.declared.table.Family.TheVariants.{F10}
 use Rattle.nr_optable.specs.Rows.{all_rows}
@@ -21,7 +21,7 @@ use Rattle.nr_step.specs.declared.flow.Flow.{Flow}
 use Rattle.nr_step.specs.declared.flow.Told.{Told}
 use Rattle.nr_step.specs.Elements.{place_of}
 use Rattle.nr_step.specs.Flows.{Doing, ThrewNew, Went}
-use Rattle.nr_step.specs.Instructions.{IsRowOf, doing, is_array_load}
+use Rattle.nr_step.specs.Instructions.{IsRowOf, is_array_load}
 use Rattle.nr_step.specs.Windows.{CanBegin, IntOnTop, Leads, ReferenceAt, reference_to, view}
 use Rattle.nr_step.proofs.Families.{AllOf, rule_by}
 use Rattle.nr_step.proofs.Going.{went_by, went_thrown}

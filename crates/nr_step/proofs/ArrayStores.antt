@@ -1,5 +1,5 @@
 -- Stores into arrays.
-use Rattle.std.proofs.Common.{◌≡◌, ◌≢◌, ℕ, suc, ◌<◌, ◌%◌, ◌^◌, ℤ, pos, List, ◌∷◌, length, Option, Some, None, IsSomeAnd, refl, sym, subst, ap, ◌∙◌, Bool, true, false, not, ◌&&◌, ◌||◌, ◌==◌, cond, slice_get, arith, of_z, to_z, w8, w16, w32, SFits, IfSome, MatchBool, ◌⊎◌, inl, inr, is_some, zero}
+use Rattle.std.proofs.Common.{◌≡◌, ◌≢◌, ℕ, suc, ◌%◌, ◌^◌, ℤ, List, ◌∷◌, length, Option, Some, None, IsSomeAnd, refl, sym, subst, ap, ◌∙◌, Bool, true, false, not, ◌||◌, ◌==◌, cond, slice_get, arith, of_z, to_z, w8, w16, w32, SFits, IfSome, MatchBool, ◌⊎◌, inl, inr, is_some, zero}
 use Rattle.std.specs.List.{list_all}
 use Rattle.std.specs.Int.{cast_unsigned}
 use Rattle.std.specs.FinMap.{get}
@@ -31,7 +31,7 @@ use Rattle.nr_step.specs.declared.flow.Flow.{Flow}
 use Rattle.nr_step.specs.declared.flow.Told.{Told}
 use Rattle.nr_step.specs.Elements.{are_ints, holds_ints, place_of}
 use Rattle.nr_step.specs.Flows.{Doing, ThrewNew, Went}
-use Rattle.nr_step.specs.Instructions.{IsRowOf, doing, is_int_store}
+use Rattle.nr_step.specs.Instructions.{IsRowOf, is_int_store}
 use Rattle.nr_step.specs.Windows.{CanBegin, IntOnTop, Leads, LongOnTop, ReferenceAt, reference_to, view}
 use Rattle.nr_step.proofs.ArrayRules.{IsArrayOf, array_from, array_to, index_in, index_out, name_from, name_to, null_from, null_to, on_array, place_there, run_in}
 use Rattle.nr_step.proofs.Families.{AllOf, rule_by}
@@ -40,69 +40,72 @@ use Rattle.nr_step.proofs.Objects.{asks_null, first_is, some_map}
 use Rattle.nr_step.proofs.Rows.{IsRule, both, each_row}
 use Rattle.nr_step.proofs.Tops.{after_int, after_long, int_top, long_top, run_off, run_on}
 
--- ---- at an index of the topmost array
+-- ---- at an index of the array at a depth
 
-abbrev pub at_element : ProgramTables → Elements → ℤ → (Kind → ℕ → Script) → Script
-at_element P el i k = not_null P 0 (on_array 0 el (λ n e. at_index P n i (k e)))
+abbrev pub at_element : ProgramTables → ℕ → Elements → ℤ → (Kind → ℕ → Script) → Script
+at_element P d el i k = not_null P d (on_array d el (λ n e. at_index P n i (k e)))
 
-pub element_asks : (P : ProgramTables) (el : Elements) (i : ℤ) (k : Kind → ℕ → Script) (h : Heap) (ls vs : List Value) (e : Ending) (u : Within) → Runs (at_element P el i k) (view h ls vs) e u → ReferenceAt vs 0
-element_asks P el i k h ls vs e u r = asks_null 0 (λ null. cond null (throw_new P NullPointerException) (on_array 0 el (λ n e. at_index P n i (k e)))) h ls vs e u r
+pub element_asks : (P : ProgramTables) (d : ℕ) (el : Elements) (i : ℤ) (k : Kind → ℕ → Script) (h : Heap) (ls vs : List Value) (e : Ending) (u : Within) → Runs (at_element P d el i k) (view h ls vs) e u → ReferenceAt vs d
+element_asks P d el i k h ls vs e u r = asks_null d (λ null. cond null (throw_new P NullPointerException) (on_array d el (λ n e. at_index P n i (k e)))) h ls vs e u r
 
-pub element_array : (P : ProgramTables) (el : Elements) (i : ℤ) (k : Kind → ℕ → Script) (a : ℕ) (h : Heap) (ls vs : List Value) (e : Ending) (u : Within) → slice_get vs 0 ≡ Some (reference_to (Some a))
-    → Runs (at_element P el i k) (view h ls vs) e u → IsArrayOf h a el
-element_array P el i k a h ls vs e u t r =
-    (array_from 0 a el (λ n e. at_index P n i (k e)) h ls vs e u t (name_from P 0 a (on_array 0 el (λ n e. at_index P n i (k e))) h ls vs e u t r)).array
+pub element_array : (P : ProgramTables) (d : ℕ) (el : Elements) (i : ℤ) (k : Kind → ℕ → Script) (a : ℕ) (h : Heap) (ls vs : List Value) (e : Ending) (u : Within) → slice_get vs d ≡ Some (reference_to (Some a))
+    → Runs (at_element P d el i k) (view h ls vs) e u → IsArrayOf h a el
+element_array P d el i k a h ls vs e u t r =
+    (array_from d a el (λ n e. at_index P n i (k e)) h ls vs e u t (name_from P d a (on_array d el (λ n e. at_index P n i (k e))) h ls vs e u t r)).array
 
-out_to : (P : ProgramTables) (el : Elements) (i : ℤ) (k : Kind → ℕ → Script) (a : ℕ) (h : Heap) (ls vs : List Value) (e : Ending) (u : Within) → slice_get vs 0 ≡ Some (reference_to (Some a))
-    → (y : IsArrayOf h a el) → place_of i (length y.object.slots) ≡ None → Runs (throw_new P ArrayIndexOutOfBoundsException) (view h ls vs) e u → Runs (at_element P el i k) (view h ls vs) e u
-out_to P el i k a h ls vs e u t y out r =
-    name_to P 0 a (on_array 0 el (λ n e. at_index P n i (k e))) h ls vs e u t
-    (array_to 0 a el (λ n e. at_index P n i (k e)) h ls vs e u t y (subst (λ sc. Runs sc (view h ls vs) e u) (sym (index_out P (length y.object.slots) i (k y.element) out)) r))
+out_to : (P : ProgramTables) (d : ℕ) (el : Elements) (i : ℤ) (k : Kind → ℕ → Script) (a : ℕ) (h : Heap) (ls vs : List Value) (e : Ending) (u : Within) → slice_get vs d ≡ Some (reference_to (Some a))
+    → (y : IsArrayOf h a el) → place_of i (length y.object.slots) ≡ None → Runs (throw_new P ArrayIndexOutOfBoundsException) (view h ls vs) e u → Runs (at_element P d el i k) (view h ls vs) e u
+out_to P d el i k a h ls vs e u t y out r =
+    name_to P d a (on_array d el (λ n e. at_index P n i (k e))) h ls vs e u t
+    (array_to d a el (λ n e. at_index P n i (k e)) h ls vs e u t y (subst (λ sc. Runs sc (view h ls vs) e u) (sym (index_out P (length y.object.slots) i (k y.element) out)) r))
 
-out_from : (P : ProgramTables) (el : Elements) (i : ℤ) (k : Kind → ℕ → Script) (a : ℕ) (h : Heap) (ls vs : List Value) (e : Ending) (u : Within) → slice_get vs 0 ≡ Some (reference_to (Some a))
-    → (y : IsArrayOf h a el) → place_of i (length y.object.slots) ≡ None → Runs (at_element P el i k) (view h ls vs) e u → Runs (throw_new P ArrayIndexOutOfBoundsException) (view h ls vs) e u
-out_from P el i k a h ls vs e u t y out r =
-    let z = array_from 0 a el (λ n e. at_index P n i (k e)) h ls vs e u t (name_from P 0 a (on_array 0 el (λ n e. at_index P n i (k e))) h ls vs e u t r) in
+out_from : (P : ProgramTables) (d : ℕ) (el : Elements) (i : ℤ) (k : Kind → ℕ → Script) (a : ℕ) (h : Heap) (ls vs : List Value) (e : Ending) (u : Within) → slice_get vs d ≡ Some (reference_to (Some a))
+    → (y : IsArrayOf h a el) → place_of i (length y.object.slots) ≡ None → Runs (at_element P d el i k) (view h ls vs) e u → Runs (throw_new P ArrayIndexOutOfBoundsException) (view h ls vs) e u
+out_from P d el i k a h ls vs e u t y out r =
+    let z = array_from d a el (λ n e. at_index P n i (k e)) h ls vs e u t (name_from P d a (on_array d el (λ n e. at_index P n i (k e))) h ls vs e u t r) in
     subst (λ sc. Runs sc (view h ls vs) e u) (index_out P (length y.object.slots) i (k y.element) out) (run_in h a el (λ n e. at_index P n i (k e)) (view h ls vs) u e z.array y z.runs)
 
-in_to : (P : ProgramTables) (el : Elements) (i : ℤ) (k : Kind → ℕ → Script) (a j : ℕ) (h : Heap) (ls vs : List Value) (e : Ending) (u : Within) → slice_get vs 0 ≡ Some (reference_to (Some a))
-    → (y : IsArrayOf h a el) → place_of i (length y.object.slots) ≡ Some j → Runs (k y.element j) (view h ls vs) e u → Runs (at_element P el i k) (view h ls vs) e u
-in_to P el i k a j h ls vs e u t y within r =
-    name_to P 0 a (on_array 0 el (λ n e. at_index P n i (k e))) h ls vs e u t
-    (array_to 0 a el (λ n e. at_index P n i (k e)) h ls vs e u t y (subst (λ sc. Runs sc (view h ls vs) e u) (sym (index_in P (length y.object.slots) i j (k y.element) within)) r))
+pub in_to : (P : ProgramTables) (d : ℕ) (el : Elements) (i : ℤ) (k : Kind → ℕ → Script) (a j : ℕ) (h : Heap) (ls vs : List Value) (e : Ending) (u : Within) → slice_get vs d ≡ Some (reference_to (Some a))
+    → (y : IsArrayOf h a el) → place_of i (length y.object.slots) ≡ Some j → Runs (k y.element j) (view h ls vs) e u → Runs (at_element P d el i k) (view h ls vs) e u
+in_to P d el i k a j h ls vs e u t y within r =
+    name_to P d a (on_array d el (λ n e. at_index P n i (k e))) h ls vs e u t
+    (array_to d a el (λ n e. at_index P n i (k e)) h ls vs e u t y (subst (λ sc. Runs sc (view h ls vs) e u) (sym (index_in P (length y.object.slots) i j (k y.element) within)) r))
+
+pub in_from : (P : ProgramTables) (d : ℕ) (el : Elements) (i : ℤ) (k : Kind → ℕ → Script) (a j : ℕ) (h : Heap) (ls vs : List Value) (e : Ending) (u : Within) → slice_get vs d ≡ Some (reference_to (Some a))
+    → (y : IsArrayOf h a el) → place_of i (length y.object.slots) ≡ Some j → Runs (at_element P d el i k) (view h ls vs) e u → Runs (k y.element j) (view h ls vs) e u
+in_from P d el i k a j h ls vs e u t y within r =
+    let z = array_from d a el (λ n e. at_index P n i (k e)) h ls vs e u t (name_from P d a (on_array d el (λ n e. at_index P n i (k e))) h ls vs e u t r) in
+    subst (λ sc. Runs sc (view h ls vs) e u) (index_in P (length y.object.slots) i j (k y.element) within) (run_in h a el (λ n e. at_index P n i (k e)) (view h ls vs) u e z.array y z.runs)
 
 -- ---- a store of a value, of which a place keeps so much
-
-abbrev pub stores_at : ProgramTables → Elements → (Kind → Value) → (Kind → Script → Script) → ℤ → Script → Script
-stores_at P el keeps push i k = at_element P el i (λ e j. push e (WriteSlot j k))
 
 -- the values on top, and what is done below them
 abbrev pub Over : (Script → Script) → List Value → List Value → (Script → Script) → Type 0
 Over F vs rest G = (k : Script) (h : Heap) (ls : List Value) (e : Ending) (u : Within) → (Runs (F k) (view h ls vs) e u → Runs (G k) (view h ls rest) e u) × (Runs (G k) (view h ls rest) e u → Runs (F k) (view h ls vs) e u)
 
-pub store_null : (flow : Flow) (P : ProgramTables) (S : Doing) (F : Script → Script) (el : Elements) (k : Script → Kind → ℕ → Script) (i : ℤ) (h j : Heap) (ls vs rest : List Value) (told : Told)
-    → Over F vs rest (λ s. at_element P el i (k s)) → slice_get rest 0 ≡ Some (reference_to None)
+pub store_null : (flow : Flow) (P : ProgramTables) (S : Doing) (F : Script → Script) (d : ℕ) (el : Elements) (k : Script → Kind → ℕ → Script) (i : ℤ) (h j : Heap) (ls vs rest : List Value) (told : Told)
+    → Over F vs rest (λ s. at_element P d el i (k s)) → slice_get rest d ≡ Some (reference_to None)
     → ((n : Option ℕ) → S n ≡ F (onward n)) → ((w : Within) → w.heap ≡ h → ThrewNew flow (throw_new P NullPointerException) w told j) → Went flow P S (view h ls vs) told (view j ls vs)
-store_null flow P S F el k i h j ls vs rest told over t same x =
+store_null flow P S F d el k i h j ls vs rest told over t same x =
     went_by flow P S (λ n. F (onward n)) (view h ls vs) told (view j ls vs) same
     (went_thrown flow P (λ n. F (onward n)) (throw_new P NullPointerException) (view h ls vs) (view h ls rest) told j refl refl
-    (λ n e u r. (over (onward n) h ls e u).1 (null_to P 0 (on_array 0 el (λ m e. at_index P m i (k (onward n) e))) h ls rest e u t r))
-    (λ n e u r. null_from P 0 (on_array 0 el (λ m e. at_index P m i (k (onward n) e))) h ls rest e u t ((over (onward n) h ls e u).0 r))
+    (λ n e u r. (over (onward n) h ls e u).1 (null_to P d (on_array d el (λ m e. at_index P m i (k (onward n) e))) h ls rest e u t r))
+    (λ n e u r. null_from P d (on_array d el (λ m e. at_index P m i (k (onward n) e))) h ls rest e u t ((over (onward n) h ls e u).0 r))
     (x (view h ls rest) refl))
 
-pub store_out : (flow : Flow) (P : ProgramTables) (S : Doing) (F : Script → Script) (el : Elements) (k : Script → Kind → ℕ → Script) (i : ℤ) (a : ℕ) (h j : Heap) (ls vs rest : List Value) (told : Told)
-    → Over F vs rest (λ s. at_element P el i (k s)) → slice_get rest 0 ≡ Some (reference_to (Some a)) → (y : IsArrayOf h a el) → place_of i (length y.object.slots) ≡ None
+pub store_out : (flow : Flow) (P : ProgramTables) (S : Doing) (F : Script → Script) (d : ℕ) (el : Elements) (k : Script → Kind → ℕ → Script) (i : ℤ) (a : ℕ) (h j : Heap) (ls vs rest : List Value) (told : Told)
+    → Over F vs rest (λ s. at_element P d el i (k s)) → slice_get rest d ≡ Some (reference_to (Some a)) → (y : IsArrayOf h a el) → place_of i (length y.object.slots) ≡ None
     → ((n : Option ℕ) → S n ≡ F (onward n)) → ((w : Within) → w.heap ≡ h → ThrewNew flow (throw_new P ArrayIndexOutOfBoundsException) w told j) → Went flow P S (view h ls vs) told (view j ls vs)
-store_out flow P S F el k i a h j ls vs rest told over t y out same x =
+store_out flow P S F d el k i a h j ls vs rest told over t y out same x =
     went_by flow P S (λ n. F (onward n)) (view h ls vs) told (view j ls vs) same
     (went_thrown flow P (λ n. F (onward n)) (throw_new P ArrayIndexOutOfBoundsException) (view h ls vs) (view h ls rest) told j refl refl
-    (λ n e u r. (over (onward n) h ls e u).1 (out_to P el i (k (onward n)) a h ls rest e u t y out r))
-    (λ n e u r. out_from P el i (k (onward n)) a h ls rest e u t y out ((over (onward n) h ls e u).0 r))
+    (λ n e u r. (over (onward n) h ls e u).1 (out_to P d el i (k (onward n)) a h ls rest e u t y out r))
+    (λ n e u r. out_from P d el i (k (onward n)) a h ls rest e u t y out ((over (onward n) h ls e u).0 r))
     (x (view h ls rest) refl))
 
 -- where the value that the place keeps is pushed, and written
 pub store_leads : (P : ProgramTables) (F : Script → Script) (el : Elements) (k : Script → Kind → ℕ → Script) (i : ℤ) (a j : ℕ) (h new : Heap) (ls vs rest us : List Value) (x v : Value)
-    → Over F vs rest (λ s. at_element P el i (k s)) → slice_get rest 0 ≡ Some (reference_to (Some a)) → (y : IsArrayOf h a el) → place_of i (length y.object.slots) ≡ Some j
+    → Over F vs rest (λ s. at_element P 0 el i (k s)) → slice_get rest 0 ≡ Some (reference_to (Some a)) → (y : IsArrayOf h a el) → place_of i (length y.object.slots) ≡ Some j
     → ((s : Script) (e : Ending) (u : Within) → Runs (WriteSlot j s) (view h ls (v ∷ rest)) e u → Runs (k s y.element j) (view h ls rest) e u)
     → rest ≡ x ∷ us → IsSomeAnd (get h a) (λ o. new ≡ with_slot h a o j v)
     → Leads F (view h ls vs) (view new ls us)
@@ -113,7 +116,7 @@ store_leads P F el k i a j h new ls vs rest us x v over t y within pushes taken 
     let go : Runs (WriteSlot j s) (view h ls (v ∷ Ref a ∷ us)) e u =
     subst (λ g. IsSomeAnd g (λ o. IsIn j o.slots × Runs s (view (with_slot h a o j v) ls us) e u)) (sym y.there)
     (place_there i (length y.object.slots) j within, subst (λ h. Runs s (view h ls us) e u) is r) in
-    (over s h ls e u).1 (in_to P el i (k s) a j h ls rest e u t y within (pushes s e u (run_on (WriteSlot j s) h ls (v ∷ rest) (v ∷ Ref a ∷ us) e u (ap (λ us. v ∷ us) same) go)))
+    (over s h ls e u).1 (in_to P 0 el i (k s) a j h ls rest e u t y within (pushes s e u (run_on (WriteSlot j s) h ls (v ∷ rest) (v ∷ Ref a ∷ us) e u (ap (λ us. v ∷ us) same) go)))
   where
     tails : (x : Value) (us : List Value) (y : Value) (ws : List Value) → x ∷ us ≡ y ∷ ws → us ≡ ws
     tails x us y ws e = cc
@@ -140,26 +143,26 @@ abbrev pub kept_int : ℤ → Script → Kind → ℕ → Script
 kept_int v s e j = Push (PlainInt (narrowed e.base v)) (WriteSlot j s)
 
 abbrev pub int_stored : ProgramTables → Elements → Script → Script
-int_stored P el k = PopInt (λ v. PopInt (λ i. at_element P el i (kept_int v k)))
+int_stored P el k = PopInt (λ v. PopInt (λ i. at_element P 0 el i (kept_int v k)))
 
 pub int_store_rule : (P : ProgramTables) (own : MethodInfo) (i : Instr) (found : Resolved) (code : ℕ) (el : Elements) → IsRowOf code i.row → is_int_store code ≡ true → elements_of code ≡ Some el → IsRule P own i found (int_stored P el)
 int_store_rule P own i found code el r s q = λ n.
     rule_by is_int_store F11 int_stores P own i found code r s n
     ∙ ap (λ l. array_store P l i.row.code (onward n)) (of_I (third_letter i.row.pops) (each_row (λ r. is_int_store r.code) (λ r. is_I (third_letter r.pops)) int_letters i.row r.listed (ap is_int_store r.code ∙ s)))
     ∙ ap (λ c. array_store P letters.I c (onward n)) r.code
-    ∙ ap (λ o. PopInt (λ v. PopInt (λ i. with_found o (λ el. at_element P el i (kept_int v (onward n)))))) q
+    ∙ ap (λ o. PopInt (λ v. PopInt (λ i. with_found o (λ el. at_element P 0 el i (kept_int v (onward n)))))) q
 
-pub int_over : (P : ProgramTables) (el : Elements) (v i : ℤ) (vs us rest : List Value) → vs ≡ Int v ∷ us → us ≡ Int i ∷ rest → Over (int_stored P el) vs rest (λ s. at_element P el i (kept_int v s))
+pub int_over : (P : ProgramTables) (el : Elements) (v i : ℤ) (vs us rest : List Value) → vs ≡ Int v ∷ us → us ≡ Int i ∷ rest → Over (int_stored P el) vs rest (λ s. at_element P 0 el i (kept_int v s))
 int_over P el v i vs us rest p q = λ s h ls e u.
     let is : vs ≡ Int v ∷ Int i ∷ rest = p ∙ ap (λ us. Int v ∷ us) q in
     (λ r. run_off (int_stored P el s) h ls vs (Int v ∷ Int i ∷ rest) e u is r, λ r. run_on (int_stored P el s) h ls vs (Int v ∷ Int i ∷ rest) e u is r)
 
 pub int_store_top : (P : ProgramTables) (el : Elements) (h : Heap) (ls vs : List Value) → CanBegin (int_stored P el) (view h ls vs) → IntOnTop vs
-int_store_top P el h ls vs (k, e, u, r) = int_top (λ v. PopInt (λ i. at_element P el i (kept_int v k))) h ls vs e u r
+int_store_top P el h ls vs (k, e, u, r) = int_top (λ v. PopInt (λ i. at_element P 0 el i (kept_int v k))) h ls vs e u r
 
 pub int_store_next : (P : ProgramTables) (el : Elements) (v : ℤ) (h : Heap) (ls vs us : List Value) → CanBegin (int_stored P el) (view h ls vs) → vs ≡ Int v ∷ us → IntOnTop us
 int_store_next P el v h ls vs us (k, e, u, r) p =
-    int_top (λ i. at_element P el i (kept_int v k)) h ls us e u (after_int (λ v. PopInt (λ i. at_element P el i (kept_int v k))) v h ls vs us e u p r)
+    int_top (λ i. at_element P 0 el i (kept_int v k)) h ls us e u (after_int (λ v. PopInt (λ i. at_element P 0 el i (kept_int v k))) v h ls vs us e u p r)
 
 -- ---- what a place can keep
 
@@ -285,7 +288,7 @@ abbrev pub kept_long : ℤ → Script → Kind → ℕ → Script
 kept_long v s e j = Push (PlainLong v) (WriteSlot j s)
 
 abbrev pub long_stored : ProgramTables → Script → Script
-long_stored P k = PopLong (λ v. PopInt (λ i. at_element P (Of bases.Long) i (kept_long v k)))
+long_stored P k = PopLong (λ v. PopInt (λ i. at_element P 0 (Of bases.Long) i (kept_long v k)))
 
 pub long_store_rule : (P : ProgramTables) (own : MethodInfo) (i : Instr) (found : Resolved) → IsRowOf 80 i.row → IsRule P own i found (long_stored P)
 long_store_rule P own i found r = λ n.
@@ -293,17 +296,17 @@ long_store_rule P own i found r = λ n.
     ∙ ap (λ l. array_store P l i.row.code (onward n)) (of_J (third_letter i.row.pops) (each_row (λ r. r.code == 80) (λ r. is_J (third_letter r.pops)) long_letters i.row r.listed (ap (λ c. c == 80) r.code)))
     ∙ ap (λ c. array_store P letters.J c (onward n)) r.code
 
-pub long_over : (P : ProgramTables) (v i : ℤ) (vs us rest : List Value) → vs ≡ Long v ∷ us → us ≡ Int i ∷ rest → Over (long_stored P) vs rest (λ s. at_element P (Of bases.Long) i (kept_long v s))
+pub long_over : (P : ProgramTables) (v i : ℤ) (vs us rest : List Value) → vs ≡ Long v ∷ us → us ≡ Int i ∷ rest → Over (long_stored P) vs rest (λ s. at_element P 0 (Of bases.Long) i (kept_long v s))
 long_over P v i vs us rest p q = λ s h ls e u.
     let is : vs ≡ Long v ∷ Int i ∷ rest = p ∙ ap (λ us. Long v ∷ us) q in
     (λ r. run_off (long_stored P s) h ls vs (Long v ∷ Int i ∷ rest) e u is r, λ r. run_on (long_stored P s) h ls vs (Long v ∷ Int i ∷ rest) e u is r)
 
 pub long_store_top : (P : ProgramTables) (h : Heap) (ls vs : List Value) → CanBegin (long_stored P) (view h ls vs) → LongOnTop vs
-long_store_top P h ls vs (k, e, u, r) = long_top (λ v. PopInt (λ i. at_element P (Of bases.Long) i (kept_long v k))) h ls vs e u r
+long_store_top P h ls vs (k, e, u, r) = long_top (λ v. PopInt (λ i. at_element P 0 (Of bases.Long) i (kept_long v k))) h ls vs e u r
 
 pub long_store_next : (P : ProgramTables) (v : ℤ) (h : Heap) (ls vs us : List Value) → CanBegin (long_stored P) (view h ls vs) → vs ≡ Long v ∷ us → IntOnTop us
 long_store_next P v h ls vs us (k, e, u, r) p =
-    int_top (λ i. at_element P (Of bases.Long) i (kept_long v k)) h ls us e u (after_long (λ v. PopInt (λ i. at_element P (Of bases.Long) i (kept_long v k))) v h ls vs us e u p r)
+    int_top (λ i. at_element P 0 (Of bases.Long) i (kept_long v k)) h ls us e u (after_long (λ v. PopInt (λ i. at_element P 0 (Of bases.Long) i (kept_long v k))) v h ls vs us e u p r)
 
 -- ---- what the code writes
 

@@ -1,8 +1,7 @@
 -- What a script asks of the operands: what its beginning says of them, and how it leads on.
-use Rattle.std.proofs.Common.{◌≡◌, ◌∙◌, ℕ, zero, suc, ◌<◌, ◌≤◌, ◌+◌, List, [], ◌∷◌, refl, sym, subst, Bool, true, false, arith, cond}
+use Rattle.std.proofs.Common.{◌≡◌, ◌∙◌, ℕ, zero, suc, ◌<◌, ◌≤◌, ◌+◌, List, refl, sym, subst, Bool, true, false, arith, cond}
 use Rattle.std.specs.Prelude.{Option, Some, None, IsSomeAnd, slice_get}
 use Rattle.nr_model.specs.declared.value.Value.{Value}
-use Rattle.nr_model.specs.declared.value.Value.TheVariants.{Null}
 use Rattle.nr_model.specs.Scripts.{AskLong, Ending, Runs, Script, Stuck, Within, is_long}
 use Rattle.nr_model.specs.ValueRules.{by_size, single}
 use Rattle.nr_step.specs.Windows.{CanBegin, Leads, top_first}

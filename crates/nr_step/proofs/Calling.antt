@@ -1,5 +1,5 @@
 -- Calls of methods that are selected by the receiver's class.
-use Rattle.std.proofs.Common.{◌≡◌, ℕ, List, length, Option, Some, None, IsSomeAnd, refl, sym, subst, ap, ◌∙◌, Bool, true, false, ◌==◌, cond, slice_get}
+use Rattle.std.proofs.Common.{◌≡◌, ℕ, List, length, Option, Some, None, IsSomeAnd, refl, sym, subst, ap, ◌∙◌, true, false, ◌==◌, cond, slice_get}
 use Rattle.std.specs.FinMap.{get}
 use Rattle.nr_optable.specs.declared.table.Family.TheVariants.{F32}
 use Rattle.nr_optable.specs.Rows.{all_rows}
@@ -96,30 +96,39 @@ receiver_there P d a k h ls vs e u top r =
     let x = subst (λ s. IsSomeAnd s (λ v. OnObject h v (λ a o. Runs (k o.kind) (view h ls vs) e u))) top (name_from P d a (by_kind d k) h ls vs e u top r) in
     some_map (get h a) (λ o. Runs (k o.kind) (view h ls vs) e u) (λ o. Unit {0}) x (λ o r. tt)
 
-pub receiver_null : (flow : Flow) (P : ProgramTables) (S : Doing) (d : ℕ) (k : Kind → Script) (h j : Heap) (ls vs : List Value) (told : Told) → slice_get vs d ≡ Some (reference_to None) → ((n : Option ℕ) → S n ≡ not_null P d (by_kind d k))
+pub receiver_null : (flow : Flow) (P : ProgramTables) (S : Doing) (d : ℕ) (k : Option ℕ → Kind → Script) (h j : Heap) (ls vs : List Value) (told : Told) → slice_get vs d ≡ Some (reference_to None) → ((n : Option ℕ) → S n ≡ not_null P d (by_kind d (k n)))
     → ((w : Within) → w.heap ≡ h → ThrewNew flow (throw_new P NullPointerException) w told j) → Went flow P S (view h ls vs) told (view j ls vs)
 receiver_null flow P S d k h j ls vs told top same x =
-    went_by flow P S (λ n. not_null P d (by_kind d k)) (view h ls vs) told (view j ls vs) same
-    (went_thrown flow P (λ n. not_null P d (by_kind d k)) (throw_new P NullPointerException) (view h ls vs) (view h ls vs) told j refl refl
-    (λ n e u r. null_to P d (by_kind d k) h ls vs e u top r) (λ n e u r. null_from P d (by_kind d k) h ls vs e u top r) (x (view h ls vs) refl))
+    went_by flow P S (λ n. not_null P d (by_kind d (k n))) (view h ls vs) told (view j ls vs) same
+    (went_thrown flow P (λ n. not_null P d (by_kind d (k n))) (throw_new P NullPointerException) (view h ls vs) (view h ls vs) told j refl refl
+    (λ n e u r. null_to P d (by_kind d (k n)) h ls vs e u top r) (λ n e u r. null_from P d (by_kind d (k n)) h ls vs e u top r) (x (view h ls vs) refl))
+
+-- at an object of the kind, all that is left is what the kind leads to
+pub kind_goes_to : (P : ProgramTables) (S : Doing) (d a : ℕ) (kd : Kind) (k : Option ℕ → Kind → Script) (h : Heap) (ls vs : List Value) → slice_get vs d ≡ Some (reference_to (Some a)) → IsSomeAnd (get h a) (λ o. o.kind ≡ kd)
+    → ((n : Option ℕ) → S n ≡ not_null P d (by_kind d (k n))) → (n : Option ℕ) (e : Ending) (u : Within) → Runs (k n kd) (view h ls vs) e u → Runs (S n) (view h ls vs) e u
+kind_goes_to P S d a kd k h ls vs top is same n e u r =
+    subst (λ sc. Runs sc (view h ls vs) e u) (sym (same n)) (name_to P d a (by_kind d (k n)) h ls vs e u top (kind_to d a kd (k n) h ls vs e u top is r))
+
+pub kind_comes_from : (P : ProgramTables) (S : Doing) (d a : ℕ) (kd : Kind) (k : Option ℕ → Kind → Script) (h : Heap) (ls vs : List Value) → slice_get vs d ≡ Some (reference_to (Some a)) → IsSomeAnd (get h a) (λ o. o.kind ≡ kd)
+    → ((n : Option ℕ) → S n ≡ not_null P d (by_kind d (k n))) → (n : Option ℕ) (e : Ending) (u : Within) → Runs (S n) (view h ls vs) e u → Runs (k n kd) (view h ls vs) e u
+kind_comes_from P S d a kd k h ls vs top is same n e u r =
+    kind_from d a kd (k n) h ls vs e u top is (name_from P d a (by_kind d (k n)) h ls vs e u top (subst (λ sc. Runs sc (view h ls vs) e u) (same n) r))
 
 -- where the kind leads to a throw
-pub kind_thrown : (flow : Flow) (P : ProgramTables) (S : Doing) (b : BuiltIn) (d a : ℕ) (kd : Kind) (k : Kind → Script) (h j : Heap) (ls vs : List Value) (told : Told) → slice_get vs d ≡ Some (reference_to (Some a))
-    → IsSomeAnd (get h a) (λ o. o.kind ≡ kd) → k kd ≡ throw_new P b → ((n : Option ℕ) → S n ≡ not_null P d (by_kind d k)) → ((w : Within) → w.heap ≡ h → ThrewNew flow (throw_new P b) w told j) → Went flow P S (view h ls vs) told (view j ls vs)
+pub kind_thrown : (flow : Flow) (P : ProgramTables) (S : Doing) (b : BuiltIn) (d a : ℕ) (kd : Kind) (k : Option ℕ → Kind → Script) (h j : Heap) (ls vs : List Value) (told : Told) → slice_get vs d ≡ Some (reference_to (Some a))
+    → IsSomeAnd (get h a) (λ o. o.kind ≡ kd) → ((n : Option ℕ) → k n kd ≡ throw_new P b) → ((n : Option ℕ) → S n ≡ not_null P d (by_kind d (k n))) → ((w : Within) → w.heap ≡ h → ThrewNew flow (throw_new P b) w told j) → Went flow P S (view h ls vs) told (view j ls vs)
 kind_thrown flow P S b d a kd k h j ls vs told top is q same x =
-    went_by flow P S (λ n. not_null P d (by_kind d k)) (view h ls vs) told (view j ls vs) same
-    (went_thrown flow P (λ n. not_null P d (by_kind d k)) (throw_new P b) (view h ls vs) (view h ls vs) told j refl refl
-    (λ n e u r. name_to P d a (by_kind d k) h ls vs e u top (kind_to d a kd k h ls vs e u top is (subst (λ sc. Runs sc (view h ls vs) e u) (sym q) r)))
-    (λ n e u r. subst (λ sc. Runs sc (view h ls vs) e u) q (kind_from d a kd k h ls vs e u top is (name_from P d a (by_kind d k) h ls vs e u top r)))
-    (x (view h ls vs) refl))
+    went_thrown flow P S (throw_new P b) (view h ls vs) (view h ls vs) told j refl refl
+    (λ n e u r. kind_goes_to P S d a kd k h ls vs top is same n e u (subst (λ sc. Runs sc (view h ls vs) e u) (sym (q n)) r))
+    (λ n e u r. subst (λ sc. Runs sc (view h ls vs) e u) (q n) (kind_comes_from P S d a kd k h ls vs top is same n e u r))
+    (x (view h ls vs) refl)
 
 -- where it leads to a call
-pub kind_called : (P : ProgramTables) (S : Doing) (d a s : ℕ) (kd : Kind) (k : Kind → Script) (h : Heap) (ls vs : List Value) → slice_get vs d ≡ Some (reference_to (Some a)) → IsSomeAnd (get h a) (λ o. o.kind ≡ kd)
-    → k kd ≡ Call s → ((n : Option ℕ) → S n ≡ not_null P d (by_kind d k)) → (n : Option ℕ) → Runs (S n) (view h ls vs) (Called s) (view h ls vs)
+pub kind_called : (P : ProgramTables) (S : Doing) (d a s : ℕ) (kd : Kind) (k : Option ℕ → Kind → Script) (h : Heap) (ls vs : List Value) → slice_get vs d ≡ Some (reference_to (Some a)) → IsSomeAnd (get h a) (λ o. o.kind ≡ kd)
+    → ((n : Option ℕ) → k n kd ≡ Call s) → ((n : Option ℕ) → S n ≡ not_null P d (by_kind d (k n))) → (n : Option ℕ) → Runs (S n) (view h ls vs) (Called s) (view h ls vs)
 kind_called P S d a s kd k h ls vs top is q same n =
     let w = view h ls vs in
-    subst (λ sc. Runs sc w (Called s) w) (sym (same n))
-    (name_to P d a (by_kind d k) h ls vs (Called s) w top (kind_to d a kd k h ls vs (Called s) w top is (subst (λ sc. Runs sc w (Called s) w) (sym q) (refl, refl))))
+    kind_goes_to P S d a kd k h ls vs top is same n (Called s) w (subst (λ sc. Runs sc w (Called s) w) (sym (q n)) (refl, refl))
 
 pub one_method : (found : Resolved) (m n c d : ℕ) → found ≡ resolved.Method m c → found ≡ resolved.Method n d → m ≡ n
 one_method found m n c d p q = cc

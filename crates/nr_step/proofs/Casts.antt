@@ -16,7 +16,7 @@ use Rattle.nr_linked.specs.Subtypes.{is_sub}
 use Rattle.nr_model.specs.declared.value.Value.{Value}
 use Rattle.nr_model.specs.declared.value.Value.TheVariants.{Int, Null, Ref}
 use Rattle.nr_model.specs.Heaps.{Heap, Obj}
-use Rattle.nr_model.specs.ObjectRules.{answer, check_cast, instance_of, throw_top}
+use Rattle.nr_model.specs.ObjectRules.{answer, check_cast, instance_of}
 use Rattle.nr_model.specs.Rules.{on_kind}
 use Rattle.nr_model.specs.Scripts.{AskKind, Ending, Runs, Script, Threw, Throw, Within}
 use Rattle.nr_model.specs.Throws.{not_null, onward, throw_new, which}
@@ -27,7 +27,7 @@ use Rattle.nr_step.specs.Instructions.{IsRowOf, doing}
 use Rattle.nr_step.specs.Windows.{CanBegin, Leads, ReferenceAt, reference_to, view}
 use Rattle.nr_step.proofs.Families.{AllOf, rule_by}
 use Rattle.nr_step.proofs.Going.{went_by, went_thrown}
-use Rattle.nr_step.proofs.Objects.{asks_null, at_some, first_is, pass, passed, some_map}
+use Rattle.nr_step.proofs.Objects.{asks_null, first_is, pass, passed, some_map}
 use Rattle.nr_step.proofs.Rows.{IsRule}
 use Rattle.nr_step.proofs.Tops.{run_off, run_on}
 

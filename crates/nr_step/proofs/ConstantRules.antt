@@ -1,5 +1,5 @@
 -- The rules of the instructions that push a constant, told by the code, and the room that a push needs.
-use Rattle.std.proofs.Common.{◌≡◌, ℕ, zero, suc, ◌+◌, ◌≤◌, ◌<◌, List, [], ◌∷◌, length, refl, sym, subst, ap, ap₂, ◌∙◌, Bool, true, false, not, ◌||◌, arith, rules, cond}
+use Rattle.std.proofs.Common.{◌≡◌, ℕ, zero, suc, ◌≤◌, ◌<◌, List, ◌∷◌, length, refl, subst, ap, ap₂, ◌∙◌, Bool, true, false, not, ◌||◌, arith, rules, cond}
 use Rattle.std.specs.Prelude.{◌==◌, ◌&&◌, nat_le, Option, pos, ◌-ℤ◌, ◌-◌}
 use Rattle.std.specs.List.{list_all}
 use Rattle.nr_optable.specs.declared.table.Family.{Family}

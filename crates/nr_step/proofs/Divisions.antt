@@ -20,7 +20,7 @@ use Rattle.nr_model.specs.declared.value.Value.{Value}
 use Rattle.nr_model.specs.declared.value.Value.TheVariants.{Int, Long}
 use Rattle.nr_model.specs.Heaps.{Heap}
 use Rattle.nr_model.specs.Rules.{rule}
-use Rattle.nr_model.specs.Scripts.{Ending, OnTop, PlainInt, PlainLong, PopInt, PopLong, Push, Runs, Script, Within}
+use Rattle.nr_model.specs.Scripts.{OnTop, PlainInt, PlainLong, PopInt, PopLong, Push, Runs, Script, Within}
 use Rattle.nr_model.specs.Throws.{onward, throw_new}
 use Rattle.nr_model.specs.ValueRules.{by_operands, division, not_zero, on_ints, on_longs}
 use Rattle.nr_step.specs.Instructions.{CanReach, IsRowOf}

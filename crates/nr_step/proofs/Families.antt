@@ -1,5 +1,5 @@
 -- The family of an instruction is told by its code.
-use Rattle.std.proofs.Common.{◌≡◌, ℕ, List, [], ◌∷◌, sym, refl, ap, ◌∙◌, Bool, true, false, not, ◌||◌}
+use Rattle.std.proofs.Common.{◌≡◌, ℕ, List, [], ◌∷◌, sym, refl, ap, ◌∙◌, Bool, true, not, ◌||◌}
 use Rattle.std.proofs.lemmas.Bool.{eqb-true}
 use Rattle.std.specs.Prelude.{Option, Some, slice_get, ◌==◌}
 use Rattle.std.specs.List.{list_all}
@@ -11,7 +11,7 @@ use Rattle.nr_prog.specs.declared.body.instruction.Instr.{Instr}
 use Rattle.nr_linked.specs.declared.program.tables.MethodInfo.{MethodInfo}
 use Rattle.nr_linked.specs.declared.program.tables.ProgramTables.{ProgramTables}
 use Rattle.nr_linked.specs.declared.program.tables.Resolved.{Resolved}
-use Rattle.nr_model.specs.Rules.{rule, script}
+use Rattle.nr_model.specs.Rules.{rule}
 use Rattle.nr_model.specs.Throws.{onward}
 use Rattle.nr_step.specs.Instructions.{IsRowOf, doing}
 use Rattle.nr_step.proofs.Rows.{each_row}

@@ -1,5 +1,5 @@
 -- Branches and switches: their rules, told by the code.
-use Rattle.std.proofs.Common.{◌≡◌, ℕ, ℤ, ◌-ℤ◌, Option, Some, refl, sym, subst, ap, ◌∙◌, Bool, true, false, not, ◌||◌, ◌==◌, is_some, cond, IsTrue}
+use Rattle.std.proofs.Common.{◌≡◌, ℕ, Option, Some, refl, sym, subst, ap, ◌∙◌, Bool, true, false, ◌||◌, ◌==◌, is_some, cond, IsTrue}
 use Rattle.nr_optable.specs.Operations.{pair_condition, zero_condition}
 use Rattle.nr_optable.specs.Rows.{all_rows}
 use Rattle.nr_optable.specs.declared.table.Family.TheVariants.{F25, F26, F27, F28, F29}
@@ -10,7 +10,7 @@ use Rattle.nr_linked.specs.declared.program.tables.MethodInfo.{MethodInfo}
 use Rattle.nr_linked.specs.declared.program.tables.ProgramTables.{ProgramTables}
 use Rattle.nr_linked.specs.declared.program.tables.Resolved.{Resolved}
 use Rattle.nr_model.specs.Rules.{on_branch, switch_rule}
-use Rattle.nr_model.specs.Scripts.{AskNull, AskSame, Drop, Ending, GoTo, GoesTo, Runs, Script, Within}
+use Rattle.nr_model.specs.Scripts.{Ending, GoTo, GoesTo, Runs, Script, Within}
 use Rattle.nr_model.specs.Throws.{onward}
 use Rattle.nr_model.specs.ValueRules.{branch, test_int, test_two, test_references}
 use Rattle.nr_step.specs.declared.flow.Flow.{Flow}

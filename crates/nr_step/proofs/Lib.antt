@@ -18,4 +18,14 @@ pub mod Returning
 pub mod ArrayRules
 pub mod ArrayStores
 pub mod NewArrays
+pub mod Fields
+pub mod ReferenceStores
+pub mod NestedArrays
+pub mod NestedRules
+pub mod NestedCells
 pub mod Calling
+pub mod DirectCalls
+pub mod SpecialCalls
+pub mod Wides
+pub mod Switches
+pub mod Codes

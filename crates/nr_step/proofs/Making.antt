@@ -1,6 +1,6 @@
 -- New objects and arrays.
-use Rattle.std.proofs.Common.{◌≡◌, ℕ, suc, ◌+◌, ◌<◌, List, ◌∷◌, length, Option, Some, refl, sym, subst, ap, ◌∙◌, IsTrue, ◌==◌}
-use Rattle.std.specs.FinMap.{get, insert}
+use Rattle.std.proofs.Common.{◌≡◌, ℕ, ◌+◌, ◌<◌, ◌≤◌, List, ◌∷◌, length, Option, refl, sym, subst, ap, ◌∙◌, IsTrue, ◌==◌}
+use Rattle.std.specs.FinMap.{insert}
 use Rattle.nr_optable.specs.declared.table.Family.TheVariants.{F33}
 use Rattle.nr_optable.specs.Rows.{all_rows}
 use Rattle.nr_prog.specs.declared.body.instruction.Instr.{Instr}
@@ -25,10 +25,10 @@ use Rattle.nr_step.specs.declared.flow.Flow.TheVariants as flows
 use Rattle.nr_step.specs.declared.flow.Told.{Told}
 use Rattle.nr_step.specs.Flows.{Doing, Went}
 use Rattle.nr_step.specs.Instructions.{CanDo, IsRowOf, doing, site_of}
-use Rattle.nr_step.specs.Windows.{Leads, view, window}
+use Rattle.nr_step.specs.Windows.{Leads, view}
 use Rattle.nr_step.proofs.ConstantRules.{Pushes}
 use Rattle.nr_step.proofs.Families.{AllOf, family_by, rule_by}
-use Rattle.nr_step.proofs.Going.{made_cells, went_by}
+use Rattle.nr_step.proofs.Going.{made_cells, made_more, went_by}
 use Rattle.nr_step.proofs.Rows.{IsRule, nothing_left}
 
 -- ---- a new object of the heap in code
@@ -51,6 +51,15 @@ fills_made P S c ps h j ls vs told same kept is many =
         λ n. made_cells c ps (onward n) (view h ls vs) told.cells is
             (λ a e u r. ap (λ (u : Within). u.heap) (nothing_left n (record (view h ls vs) { heap = insert h a (new_object c ps); operands = Ref a ∷ vs }) u e r)),
       ),
+    )
+
+pub none_made : (P : ProgramTables) (S : Doing) (c : Kind) (ps : List Plain) (h j : Heap) (ls vs : List Value) (told : Told) → ((n : Option ℕ) → S n ≡ Make c ps (onward n)) → j ≡ h
+    → cells h + cells_of (new_object c ps) ≤ max_cells → Went flows.NoMemory P S (view h ls vs) told (view j ls vs)
+none_made P S c ps h j ls vs told same kept few =
+    went_by flows.NoMemory P S (λ n. Make c ps (onward n)) (view h ls vs) told (view j ls vs) same (
+      ap (λ h. view h ls vs) kept,
+      λ n. made_more c ps (onward n) (view h ls vs) few
+          (λ a e u r. ap (λ (u : Within). u.heap) (nothing_left n (record (view h ls vs) { heap = insert h a (new_object c ps); operands = Ref a ∷ vs }) u e r)),
     )
 
 -- ---- new

@@ -1,7 +1,7 @@
 -- New arrays, and lengths of arrays.
-use Rattle.std.proofs.Common.{◌≡◌, ℕ, zero, suc, ◌+◌, ◌<◌, ◌≤◌, ◌^◌, ℤ, pos, negsuc, List, [], ◌∷◌, length, replicate, Option, Some, None, IsSomeAnd, refl, sym, subst, ap, ◌∙◌, Bool, true, false, ◌==◌, ◌||◌, not, cond, slice_get, arith, to_z, w32}
+use Rattle.std.proofs.Common.{◌≡◌, ℕ, ◌+◌, ◌<◌, ◌≤◌, ◌^◌, ℤ, pos, negsuc, List, [], ◌∷◌, length, replicate, Option, Some, None, IsSomeAnd, refl, sym, subst, ap, ◌∙◌, Bool, true, false, ◌==◌, ◌||◌, not, cond, slice_get, arith, to_z, w32}
 use Rattle.std.specs.List.{list_all}
-use Rattle.std.specs.FinMap.{entries, find, get, get-entries, insert}
+use Rattle.std.specs.FinMap.{entries, find, get, get-entries}
 use Rattle.std.specs.Ordering.{is_eq, nat_cmp}
 use Rattle.std.proofs.lemmas.Int.{ints}
 use Rattle.nr_optable.specs.declared.table.Family.TheVariants.{F34, F35}
@@ -12,8 +12,10 @@ use Rattle.nr_optable.specs.Rows.{all_rows}
 use Rattle.nr_prog.specs.declared.body.instruction.Args.{Args}
 use Rattle.nr_prog.specs.declared.body.instruction.Args.TheVariants as args
 use Rattle.nr_prog.specs.declared.body.instruction.Instr.{Instr}
-use Rattle.nr_linked.specs.declared.program.built_in.BuiltIn.TheVariants.{NegativeArraySizeException, NullPointerException}
+use Rattle.nr_linked.specs.declared.program.built_in.BuiltIn.TheVariants.{NegativeArraySizeException}
+use Rattle.nr_linked.specs.declared.program.kind.Base.{Base}
 use Rattle.nr_linked.specs.declared.program.kind.Kind.{Kind}
+use Rattle.nr_linked.specs.ArrayKinds.{primitive_of}
 use Rattle.nr_linked.specs.declared.program.tables.MethodInfo.{MethodInfo}
 use Rattle.nr_linked.specs.declared.program.tables.ProgramTables.{ProgramTables}
 use Rattle.nr_linked.specs.declared.program.tables.Resolved.{Resolved}
@@ -24,10 +26,10 @@ use Rattle.nr_model.specs.declared.value.Value.{Value}
 use Rattle.nr_model.specs.declared.value.Value.TheVariants.{Int, Ref}
 use Rattle.nr_model.specs.Heaps.{Heap, Obj, cells, cells_of, total_cells}
 use Rattle.nr_model.specs.Outcomes.{max_cells}
-use Rattle.nr_model.specs.ArrayRules.{array_length, make_array, new_array}
+use Rattle.nr_model.specs.ArrayRules.{make_array, new_array}
 use Rattle.nr_model.specs.Rules.{array_rule}
 use Rattle.nr_model.specs.Scripts.{AskKind, Drop, Ending, PlainInt, Push, Runs, Script, Within}
-use Rattle.nr_model.specs.Throws.{not_null, onward, throw_new, which, zero_of}
+use Rattle.nr_model.specs.Throws.{not_null, onward, throw_new, which, with_found, zero_of}
 use Rattle.nr_heap.specs.Contents.{Contents, HasMade, array_with, reached}
 use Rattle.nr_step.specs.declared.flow.Flow.{Flow}
 use Rattle.nr_step.specs.declared.flow.Flow.TheVariants as flows
@@ -38,7 +40,7 @@ use Rattle.nr_step.specs.Instructions.{CanDo, IsRowOf, doing, site_of}
 use Rattle.nr_step.specs.Windows.{CanBegin, Leads, reference_to, view}
 use Rattle.nr_step.proofs.Families.{AllOf, rule_by}
 use Rattle.nr_step.proofs.Going.{went_by, went_thrown}
-use Rattle.nr_step.proofs.Making.{fills_made, made_leads}
+use Rattle.nr_step.proofs.Making.{fills_made, made_leads, none_made}
 use Rattle.nr_step.proofs.Objects.{first_is, pass, passed, some_map}
 use Rattle.nr_step.proofs.Rows.{IsRule, each_row}
 use Rattle.nr_step.proofs.Tops.{run_off, run_on}
@@ -139,6 +141,13 @@ array_fills P S e n h j ls vs us told is same kept q many =
     went_by flows.Full P S (λ n. new_array P e (onward n)) (view h ls vs) told (view j ls vs) same
     (ap (λ h. view h ls vs) kept, (many, λ m en u r. x.1.1 m en u (run_off (new_array P e (onward m)) h ls vs (Int (pos n) ∷ us) en u is r)))
 
+pub array_unmade : (P : ProgramTables) (S : Doing) (e : Kind) (n : ℕ) (h j : Heap) (ls vs us : List Value) (told : Told) → vs ≡ Int (pos n) ∷ us → ((n : Option ℕ) → S n ≡ new_array P e (onward n)) → j ≡ h
+    → reached h (array_with e n) ≤ max_cells → Went flows.NoMemory P S (view h ls vs) told (view j ls vs)
+array_unmade P S e n h j ls vs us told is same kept few =
+    let x = none_made P (λ n2. make_array e n (onward n2)) (array_of e) (replicate n (zero_of e)) h j ls us told (λ n. refl) kept few in
+    went_by flows.NoMemory P S (λ n. new_array P e (onward n)) (view h ls vs) told (view j ls vs) same
+    (ap (λ h. view h ls vs) kept, λ m en u r. x.1 m en u (run_off (new_array P e (onward m)) h ls vs (Int (pos n) ∷ us) en u is r))
+
 -- ---- anewarray
 
 arrays : AllOf (λ c. c == 189) F34
@@ -185,3 +194,42 @@ a_kind P m found k w u e r = absurd r
 pub element_found : (P : ProgramTables) (own : MethodInfo) (i : Instr) (found : Resolved) (m : ℕ) (w : Within) (room : ℕ) → IsRowOf 189 i.row → i.args ≡ args.Pool m → CanDo P own i found w room → (j : Kind) × (found ≡ resolved.Kind j)
 element_found P own i found m w room r a can =
     a_kind P m found (onward can.next) w can.left can.ending (subst (λ sc. Runs sc w can.ending can.left) (anewarray_is P own i found m r a can.next) can.runs)
+
+-- ---- newarray
+
+primitives : AllOf (λ c. c == 188) F34
+unfolding all_rows
+primitives = refl
+
+abbrev is_Prim : Shape → Bool
+is_Prim shapes.Prim = true
+is_Prim shape = false
+
+prim_arg : (s : Shape) (a : Args) → is_Prim s ≡ true → is_shaped s a ≡ true → (n : ℕ) × (a ≡ args.Prim n)
+prim_arg shapes.Prim (args.Prim n) p q = (n, refl)
+prim_arg shapes.Prim a p q = absurd cc
+prim_arg s a p q = absurd cc
+
+prim_shapes : list_all (λ (r : Row). not (r.code == 188) || is_Prim r.shape) all_rows ≡ true
+unfolding all_rows
+prim_shapes = refl
+
+pub prim_there : (P : ProgramTables) (own : ℕ) (i : Instr) (found : Resolved) (n : Option ℕ) → IsRowOf 188 i.row → SiteFacts P own (site_of i found n) → (m : ℕ) × (i.args ≡ args.Prim m)
+prim_there P own i found n r site = prim_arg i.row.shape i.args (each_row (λ r. r.code == 188) (λ r. is_Prim r.shape) prim_shapes i.row r.listed (ap (λ c. c == 188) r.code)) site.shaped
+
+newarray_is : (P : ProgramTables) (own : MethodInfo) (i : Instr) (found : Resolved) (m : ℕ) → IsRowOf 188 i.row → i.args ≡ args.Prim m → (n : Option ℕ) → doing P own i found n ≡ array_rule P (args.Prim m) found (onward n)
+newarray_is P own i found m r a n = rule_by (λ c. c == 188) F34 primitives P own i found 188 r refl n ∙ ap (λ a. array_rule P a found (onward n)) a
+
+abbrev pub primitive_kind : Base → Kind
+primitive_kind base = record { dims = 0; base = base }
+
+pub newarray_rule : (P : ProgramTables) (own : MethodInfo) (i : Instr) (found : Resolved) (m : ℕ) (b : Base) → IsRowOf 188 i.row → i.args ≡ args.Prim m → primitive_of m ≡ Some b → IsRule P own i found (new_array P (primitive_kind b))
+newarray_rule P own i found m b r a f = λ n. newarray_is P own i found m r a n ∙ ap (λ o. with_found o (λ base. new_array P (primitive_kind base) (onward n))) f
+
+a_primitive : (P : ProgramTables) (o : Option Base) (k : Script) (w u : Within) (e : Ending) → Runs (with_found o (λ base. new_array P (primitive_kind base) k)) w e u → (b : Base) × (o ≡ Some b)
+a_primitive P None k w u e r = absurd r
+a_primitive P (Some b) k w u e r = (b, refl)
+
+pub primitive_found : (P : ProgramTables) (own : MethodInfo) (i : Instr) (found : Resolved) (m : ℕ) (w : Within) (room : ℕ) → IsRowOf 188 i.row → i.args ≡ args.Prim m → CanDo P own i found w room → (b : Base) × (primitive_of m ≡ Some b)
+primitive_found P own i found m w room r a can =
+    a_primitive P (primitive_of m) (onward can.next) w can.left can.ending (subst (λ sc. Runs sc w can.ending can.left) (newarray_is P own i found m r a can.next) can.runs)

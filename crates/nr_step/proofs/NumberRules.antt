@@ -1,6 +1,6 @@
 -- The rules of the instructions that compute numbers, told by the code.
-use Rattle.std.proofs.Common.{◌≡◌, ℕ, List, refl, ap, ◌∙◌, Bool, true, false, not, ◌||◌, is_some}
-use Rattle.std.specs.Prelude.{◌==◌, Contains}
+use Rattle.std.proofs.Common.{◌≡◌, ℕ, refl, ap, ◌∙◌, Bool, true, false, not, ◌||◌, is_some}
+use Rattle.std.specs.Prelude.{◌==◌}
 use Rattle.std.specs.List.{list_all}
 use Rattle.nr_optable.specs.declared.table.Family.{Family}
 use Rattle.nr_optable.specs.declared.table.Family.TheVariants.{F5, F21, F22, F23, F24}

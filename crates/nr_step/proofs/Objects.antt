@@ -1,30 +1,27 @@
 -- Instructions on objects: what their rules ask of the heap.
-use Rattle.std.proofs.Common.{◌≡◌, ℕ, zero, List, [], ◌∷◌, length, ◌<◌, Option, Some, None, IsSomeAnd, refl, sym, subst, ap, ◌∙◌, Bool, true, false, ◌==◌, cond, slice_get}
-use Rattle.std.specs.FinMap.{get, insert}
+use Rattle.std.proofs.Common.{◌≡◌, ℕ, List, [], ◌∷◌, length, ◌<◌, Option, Some, None, IsSomeAnd, refl, sym, subst, ap, ◌∙◌, Bool, true, false, ◌==◌, cond, slice_get}
+use Rattle.std.specs.FinMap.{get}
 use Rattle.std.proofs.lemmas.Option.{slice_get_within}
-use Rattle.nr_optable.specs.declared.table.Family.TheVariants.{F30, F31, F33, F36, F37}
+use Rattle.nr_optable.specs.declared.table.Family.TheVariants.{F30}
 use Rattle.nr_optable.specs.Rows.{all_rows}
 use Rattle.nr_prog.specs.declared.body.instruction.Instr.{Instr}
-use Rattle.nr_linked.specs.declared.program.built_in.BuiltIn.TheVariants.{ClassCastException, NullPointerException, Throwable}
-use Rattle.nr_linked.specs.declared.program.kind.Kind.{Kind}
+use Rattle.nr_linked.specs.declared.program.built_in.BuiltIn.TheVariants.{NullPointerException}
 use Rattle.nr_linked.specs.declared.program.tables.MethodInfo.{MethodInfo}
 use Rattle.nr_linked.specs.declared.program.tables.ProgramTables.{ProgramTables}
 use Rattle.nr_linked.specs.declared.program.tables.Resolved.{Resolved}
 use Rattle.nr_linked.specs.declared.program.tables.Resolved.TheVariants as resolved
 use Rattle.nr_linked.specs.declared.program.tables.SlotInfo.{SlotInfo}
-use Rattle.nr_linked.specs.BuiltIns.{built_in}
 use Rattle.nr_linked.specs.Kinds.{class_kind}
 use Rattle.nr_linked.specs.Slots.{slots_of}
 use Rattle.nr_linked.specs.Subtypes.{is_sub}
 use Rattle.nr_model.specs.declared.value.Value.{Value}
 use Rattle.nr_model.specs.declared.value.Value.TheVariants.{Int, Long, Null, Ref}
-use Rattle.nr_model.specs.Heaps.{Heap, Obj}
-use Rattle.nr_model.specs.ObjectRules.{check_cast, get_field, has_fields_of, throw_top}
-use Rattle.nr_model.specs.Rules.{on_kind, on_slot}
-use Rattle.nr_model.specs.Scripts.{AskKind, AskNull, Ending, GoTo, GoesTo, ReadSlot, Runs, Script, Threw, Throw, Within, OnReference, is_null}
+use Rattle.nr_model.specs.Heaps.{Heap}
+use Rattle.nr_model.specs.ObjectRules.{get_field, has_fields_of}
+use Rattle.nr_model.specs.Rules.{on_slot}
+use Rattle.nr_model.specs.Scripts.{AskNull, Ending, ReadSlot, Runs, Script, Within, OnReference, is_null}
 use Rattle.nr_model.specs.Throws.{not_null, onward, throw_new, which, with_found}
 use Rattle.nr_step.specs.declared.flow.Flow.{Flow}
-use Rattle.nr_step.specs.declared.flow.Flow.TheVariants as flows
 use Rattle.nr_step.specs.declared.flow.Told.{Told}
 use Rattle.nr_step.specs.Flows.{Doing, ThrewNew, Went}
 use Rattle.nr_step.specs.Instructions.{CanDo, IsRowOf, doing}
@@ -107,7 +104,7 @@ pub record SlotFound (P : ProgramTables) (found : Resolved) : Type 0 where
   pub info : SlotInfo
   pub there : slice_get (slots_of P owner) place ≡ Some info
 
-to_slot : (P : ProgramTables) (found : Resolved) (F : SlotInfo → ℕ → Script) (w u : Within) (e : Ending) → Runs (on_slot found (λ c s. with_found (slice_get (slots_of P c) s) (λ i. F i s))) w e u → SlotFound P found
+pub to_slot : (P : ProgramTables) (found : Resolved) (F : SlotInfo → ℕ → Script) (w u : Within) (e : Ending) → Runs (on_slot found (λ c s. with_found (slice_get (slots_of P c) s) (λ i. F i s))) w e u → SlotFound P found
 to_slot P (resolved.Slot c s) F w u e r = let x = go (slice_get (slots_of P c) s) r in record { owner = c; place = s; is = refl; info = x.0; there = x.1 }
   where
     go : (o : Option SlotInfo) → Runs (with_found o (λ i. F i s)) w e u → (i : SlotInfo) × (o ≡ Some i)

@@ -1,5 +1,5 @@
 -- Returns, nop, and constants that the operands or the pool hold: their rules.
-use Rattle.std.proofs.Common.{◌≡◌, ℕ, ℤ, List, [], ◌∷◌, Option, refl, sym, subst, ap, ◌∙◌, Bool, true, false, not, ◌&&◌, ◌||◌, ◌==◌, cond, Some}
+use Rattle.std.proofs.Common.{◌≡◌, ℕ, ℤ, List, [], ◌∷◌, Option, refl, subst, ap, ◌∙◌, Bool, true, false, not, ◌||◌, ◌==◌, cond, Some}
 use Rattle.std.proofs.lemmas.Bool.{eqb-true}
 use Rattle.std.specs.List.{list_all}
 use Rattle.nr_optable.specs.declared.table.Family.TheVariants.{F1, F2, F6, F8}

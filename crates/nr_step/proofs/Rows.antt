@@ -1,5 +1,5 @@
 -- The rule of an instruction is told by its code.
-use Rattle.std.proofs.Common.{◌≡◌, ℕ, zero, suc, ◌≤◌, List, [], ◌∷◌, length, sym, subst, refl, ap, ◌∙◌, Bool, true, false, arith, not, ◌||◌, is_some}
+use Rattle.std.proofs.Common.{◌≡◌, ℕ, zero, suc, List, [], ◌∷◌, sym, subst, refl, Bool, true, false, arith, not, ◌||◌}
 use Rattle.std.specs.Prelude.{Option, Some, None, Contains, ◌&&◌}
 use Rattle.std.specs.List.{list_all}
 use Rattle.nr_optable.specs.declared.table.Row.{Row}
@@ -21,10 +21,10 @@ both true true e = (refl, refl)
 both true false e = absurd cc
 both false b e = absurd cc
 
-passes : (test : Row → Bool) (rows : List Row) → list_all test rows ≡ true → (r : Row) → Contains rows r → test r ≡ true
-passes test [] t r c = let l = c.1 in absurd (omega arith)
-passes test (x ∷ rows) t r (zero, l, e) = let b = both (test x) _ t in subst (λ x. test x ≡ true) e b.0
-passes test (x ∷ rows) t r (suc k, l, e) = let b = both (test x) _ t in passes test rows b.1 r (k, omega arith, e)
+pub each_of : {X : Type 0} (test : X → Bool) (xs : List X) → list_all test xs ≡ true → (x : X) → Contains xs x → test x ≡ true
+each_of test [] t r c = let l = c.1 in absurd (omega arith)
+each_of test (x ∷ xs) t r (zero, l, e) = let b = both (test x) _ t in subst (λ x. test x ≡ true) e b.0
+each_of test (x ∷ xs) t r (suc k, l, e) = let b = both (test x) _ t in each_of test xs b.1 r (k, omega arith, e)
 
 implied : (b c : Bool) → (not b || c) ≡ true → b ≡ true → c ≡ true
 implied true c p q = p
@@ -32,7 +32,7 @@ implied false c p q = absurd cc
 
 -- each row that the first test holds of passes the second
 pub each_row : (first second : Row → Bool) → list_all (λ r. not (first r) || second r) all_rows ≡ true → (r : Row) → Contains all_rows r → first r ≡ true → second r ≡ true
-each_row first second t r c f = implied (first r) (second r) (passes _ all_rows t r c) f
+each_row first second t r c f = implied (first r) (second r) (each_of _ all_rows t r c) f
 
 -- ---- from the rule of a family to the instruction
 

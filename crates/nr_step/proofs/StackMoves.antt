@@ -1,5 +1,5 @@
 -- The instructions that move operands: their rules, and the room that they need.
-use Rattle.std.proofs.Common.{◌≡◌, ℕ, zero, suc, ◌+◌, ◌-◌, ◌≤◌, ◌<◌, List, [], ◌∷◌, length, Option, Some, None, IsSomeAnd, refl, sym, subst, ap, ◌∙◌, Bool, true, false, ◌==◌, cond, slice_get, arith}
+use Rattle.std.proofs.Common.{◌≡◌, ℕ, zero, suc, ◌+◌, ◌≤◌, ◌<◌, List, [], ◌∷◌, length, Option, Some, None, IsSomeAnd, refl, subst, ap, ◌∙◌, Bool, true, false, ◌==◌, cond, slice_get, arith}
 use Rattle.nr_optable.specs.declared.table.Family.TheVariants.{F12, F13, F14, F15, F16, F17, F18, F19}
 use Rattle.nr_optable.specs.Rows.{all_rows}
 use Rattle.nr_prog.specs.declared.body.instruction.Instr.{Instr}
@@ -8,11 +8,11 @@ use Rattle.nr_linked.specs.declared.program.tables.ProgramTables.{ProgramTables}
 use Rattle.nr_linked.specs.declared.program.tables.Resolved.{Resolved}
 use Rattle.nr_model.specs.declared.value.Value.{Value}
 use Rattle.nr_model.specs.Heaps.{Heap}
-use Rattle.nr_model.specs.Scripts.{AskLong, Drop, Ending, Pick, Runs, Script, Stuck, Within, is_long, without}
+use Rattle.nr_model.specs.Scripts.{Drop, Ending, Pick, Runs, Script, Stuck, Within, is_long, without}
 use Rattle.nr_model.specs.Throws.{onward}
 use Rattle.nr_model.specs.ValueRules.{by_size, copy_below, drop_top, dup, dup2, dup2_x1, dup2_x2, dup_x1, dup_x2, again, single, swap}
-use Rattle.nr_step.specs.Instructions.{CanDo, CanOperate, IsRowOf, doing}
-use Rattle.nr_step.specs.Windows.{top_first, view, window}
+use Rattle.nr_step.specs.Instructions.{CanDo, IsRowOf}
+use Rattle.nr_step.specs.Windows.{top_first, window}
 use Rattle.nr_step.proofs.ConstantRules.{depth_of}
 use Rattle.nr_step.proofs.Families.{AllOf, rule_by}
 use Rattle.nr_step.proofs.Rows.{IsRule, nothing_left}

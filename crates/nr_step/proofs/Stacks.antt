@@ -1,9 +1,9 @@
 -- Writes into the slice, seen from the stack.
-use Rattle.std.proofs.Common.{◌≡◌, ℕ, zero, suc, ◌+◌, ◌<◌, ◌≤◌, List, [], ◌∷◌, length, refl, sym, subst, ap, ap₂, ◌∙◌, arith, rules, add-one}
-use Rattle.std.specs.Prelude.{slice_set, slice_index_or, slice_get, Some}
+use Rattle.std.proofs.Common.{◌≡◌, ℕ, zero, suc, ◌+◌, ◌<◌, ◌≤◌, List, ◌∷◌, length, refl, subst, ap, arith, add-one}
+use Rattle.std.specs.Prelude.{slice_set, slice_get, Some}
 use Rattle.std.proofs.lemmas.List.{get_or-set_same, get_or-set_other}
 use Rattle.nr_model.specs.declared.value.Value.{Value}
-use Rattle.nr_model.specs.declared.value.Value.TheVariants.{Int, Long, Null, Ref}
+use Rattle.nr_model.specs.declared.value.Value.TheVariants.{Null}
 use Rattle.nr_step.specs.Windows.{top_first}
 
 top_first_below : (xs : List Value) (i d : ℕ) (v : Value) → d ≤ i → top_first (slice_set xs i v) d ≡ top_first xs d

@@ -1,11 +1,10 @@
 -- What a run says of the operands that it takes.
-use Rattle.std.proofs.Common.{◌≡◌, ℕ, zero, ℤ, Bool, List, [], ◌∷◌, refl, sym, subst, ap, ◌∙◌}
-use Rattle.std.specs.Prelude.{Option, Some, None, IsSomeAnd, slice_get}
+use Rattle.std.proofs.Common.{◌≡◌, ℤ, Bool, List, [], ◌∷◌, refl, sym, subst}
 use Rattle.nr_model.specs.declared.value.Value.{Value}
 use Rattle.nr_model.specs.declared.value.Value.TheVariants.{Int, Long, Null, Ref}
 use Rattle.nr_model.specs.Heaps.{Heap}
-use Rattle.nr_model.specs.Scripts.{AskNull, Ending, OnInt, OnLong, OnReference, OnTop, PopInt, PopLong, Runs, Script, Within, is_null}
-use Rattle.nr_step.specs.Windows.{IntOnTop, LongOnTop, ReferenceOnTop, reference_to, view}
+use Rattle.nr_model.specs.Scripts.{AskNull, Ending, PopInt, PopLong, Runs, Script, Within}
+use Rattle.nr_step.specs.Windows.{IntOnTop, LongOnTop, ReferenceOnTop, view}
 
 -- ---- a run from equal operands
 

@@ -1,8 +1,12 @@
 -- Elements of arrays.
+use Rattle.std.specs.FinMap.{get}
 use Rattle.std.specs.Prelude.{ℕ, ℤ, pos, negsuc, Bool, true, false, Option, Some, None, nat_lt, if◌then◌else◌}
 use Rattle.nr_linked.specs.declared.program.kind.Base.TheVariants as bases
-use Rattle.nr_linked.specs.ArrayKinds.{Elements, Of, Bytes, References, elements_of}
-use Rattle.nr_model.specs.Heaps.{on_some}
+use Rattle.nr_linked.specs.ArrayKinds.{Elements, Of, Bytes, elements_of}
+use Rattle.nr_linked.specs.declared.program.kind.Kind.{Kind}
+use Rattle.nr_linked.specs.declared.program.tables.ProgramTables.{ProgramTables}
+use Rattle.nr_linked.specs.Subtypes.{is_sub}
+use Rattle.nr_model.specs.Heaps.{Heap, on_some}
 
 -- the place of the element at an index, where an array of n elements has it
 abbrev pub place_of : ℤ → ℕ → Option ℕ
@@ -20,6 +24,11 @@ are_ints el = false
 -- so are those of the arrays of the instruction with the code
 abbrev pub holds_ints : ℕ → Bool
 holds_ints code = on_some (elements_of code) false are_ints
+
+-- a reference may stand in an array with elements of the kind: null, or one to an object of the kind (6.5, aastore)
+abbrev pub may_stand : ProgramTables → Heap → Kind → Option ℕ → Bool
+may_stand P h e None = true
+may_stand P h e (Some a) = on_some (get h a) false (λ o. is_sub P o.kind e)
 
 -- how many elements a new array has, if it can have so many
 abbrev pub count_of : ℤ → Option ℕ

@@ -41,3 +41,7 @@ CanBegin F w = (k : Script) × (e : Ending) × (v : Within) × Runs (F k) w e v
 -- what goes on from v goes on after F from w
 abbrev pub Leads : (Script → Script) → Within → Within → Type 0
 Leads F w v = (k : Script) (e : Ending) (u : Within) → Runs k v e u → Runs (F k) w e u
+
+-- F does no more than to put v in the place of w
+abbrev pub Turns : (Script → Script) → Within → Within → Type 0
+Turns F w v = (k : Script) (e : Ending) (u : Within) → (Runs k v e u → Runs (F k) w e u) × (Runs (F k) w e u → Runs k v e u)

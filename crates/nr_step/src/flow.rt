@@ -1,6 +1,7 @@
 //! How an instruction went.
 
-/// How an instruction went. But for `Next` and `Branch` the locals and the operands are as they were.
+/// How an instruction went. But for `Next` and `Branch` the locals and the operands are as they were. (The
+/// project's own.)
 #[derive(Clone, Copy, Debug, PartialEq, Eq)]
 pub enum Flow {
     /// On at the next instruction.
@@ -23,11 +24,12 @@ pub enum Flow {
     Full,
 }
 
-/// What an instruction tells beside how it went.
+/// What an instruction tells beside how it went. Where no case is named, a field says nothing.
 #[derive(Clone, Copy, Debug, PartialEq, Eq)]
 pub struct Told {
-    /// An offset, an object's name or a method.
+    /// At `Branch` the offset of the target in the code, at `Throw` the object's name, and at `Invoke` and
+    /// `Print` the method.
     pub number: u32,
-    /// The cells that the heap would have, or 2^64 - 1 where it would have more.
+    /// At `Full` the cells that the heap would have, or 2^64 - 1 where it would have more.
     pub cells: u64,
 }

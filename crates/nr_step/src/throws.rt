@@ -11,6 +11,8 @@ use nr_heap::{Heap, HeapFault};
 use nr_linked::{BuiltIn, Program};
 
 /// Makes an object of a built-in class, to be thrown, and tells its name.
+#[cold]
+#[inline(never)]
 pub fn throw_object(p: &Program, heap: &mut Heap, which: BuiltIn, told: &mut Told) -> Flow
     requires { IsTrue (is_thrown which) }
     ensures { (w : Within) → w.heap ≡ heap.old.objects → ThrewNew result (throw_new p.now which) w told.new heap.new.objects }

@@ -1,25 +1,22 @@
 //! Remote calls and their answers (the project's own).
 
-ghost use Rattle.std.specs.Prelude.{◌≡◌, ◌<◌, ◌≤◌, Err, IfOk, IsOkUnless, OnErr, OnOk, Option, reverse};
+ghost use Rattle.std.specs.Prelude.{◌≡◌, ◌+◌, ◌<◌, ◌≤◌, Err, IfOk, IsOkUnless, OnErr, OnOk, Option, length, reverse};
 ghost use Rattle.nr_linked.specs.declared.program.kind.Kind.{Kind};
 ghost use Rattle.nr_linked.specs.Programs.{result_of};
 ghost use Rattle.nr_model.specs.Asks.{Answered, Asks, Faulted, asked_args, fault_class};
 ghost use Rattle.nr_model.specs.Belonging.{IsResult};
 ghost use Rattle.nr_model.specs.Heaps.{Heap as Objects};
-ghost use Rattle.nr_model.specs.Outcomes.{OutputTooLong, max_cells};
+ghost use Rattle.nr_model.specs.Outcomes.{OutputTooLong, max_cells, max_printed};
 ghost use Rattle.nr_heap.specs.Contents.{object_of, reached};
 ghost use Rattle.nr_machine.specs.Executions.{IsAsking, Stands, state_in};
 ghost use Rattle.nr_machine.specs.Resumed.{AnswerPasses, Resumed};
 
 use super::Machine;
 use crate::answer::{ResumeFault, Turn};
-use crate::stack::operand_count;
+use crate::stack::{MAX_PRINTED, operand_count};
 use nr_heap::{Heap, HeapFault};
 use nr_linked::{Base, ClassId, Kind};
 use nr_model::{Ref, Value};
-
-/// The bytes that a run may print.
-const MAX_PRINTED: usize = 0x10_0000;
 
 impl<'p> Machine<'p> {
     /// The arguments of the remote call at which the machine stands, the first first.
@@ -53,11 +50,13 @@ impl<'p> Machine<'p> {
         ensures stands { OnOk result ((k : Option Kind) → Stands k heap.now.objects self.old → Stands k heap.now.objects self.new) }
         ensures too_long { result ≡ Err ResumeFault.OutputTooLong → (before : Objects)
             → AnswerPasses before self.old (Answered heap.now.objects value printed.now) OutputTooLong }
+        ensures over { max_printed < length self.old.printed + length printed.now → result ≡ Err ResumeFault.OutputTooLong }
         ensures err { OnErr result (self.new ≡ self.old) }
     {
         let program = self.program.program();
         let _facts = program.tables();
         let _cells = heap.cells();
+        let _budget = self.budget;
         if self.printed.len() + printed.len() > MAX_PRINTED {
             return Err(ResumeFault::OutputTooLong);
         }
@@ -91,6 +90,7 @@ impl<'p> Machine<'p> {
         let _facts = program.tables();
         let name = heap.new_object(program, class)?;
         let _cells = heap.cells();
+        let _budget = self.budget;
         let method = self.stack.called_method(program);
         let count = operand_count(program.method(method));
         self.stack.drop_operands(program, count);

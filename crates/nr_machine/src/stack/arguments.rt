@@ -8,6 +8,7 @@ ghost use Rattle.nr_machine.specs.CallStacks.{filled};
 use nr_model::Value;
 
 /// Puts arguments into the first locals. A long takes two, the second of which isn't used.
+#[inline(always)]
 fn place_arguments(args: &[Value], locals: &mut [Value])
     requires { length (spread args.now) ≤ length locals.old }
     ensures { locals.new ≡ spread args.now ++ drop (length (spread args.now)) locals.old }
@@ -24,6 +25,7 @@ fn place_arguments(args: &[Value], locals: &mut [Value])
 }
 
 /// Puts the arguments that stand in the values from `first` on into the locals that begin at `from`.
+#[inline(always)]
 pub fn pass_arguments(values: &mut [Value], from: usize, first: usize, count: usize)
     requires before { first + count ≤ from }
     requires within { from ≤ length values.old }
@@ -37,6 +39,7 @@ pub fn pass_arguments(values: &mut [Value], from: usize, first: usize, count: us
 
 /// Puts a window of so many values at the end, where there is room for it: the arguments that stand in the
 /// values from `first` on as the first locals, and null in all other places.
+#[inline(always)]
 pub fn push_window(values: &mut Vec<Value>, slots: usize, first: usize, count: usize)
     requires arguments { first + count ≤ length values.old.items }
     requires fits { length (spread (take count (drop first values.old.items))) ≤ slots }

@@ -9,6 +9,7 @@ use nr_linked::{MethodId, Program, Resolved};
 use nr_model::Value;
 
 /// So many values that end before a place.
+#[inline(always)]
 fn part_before(values: &[Value], end: usize, count: usize) -> &[Value]
     requires start { count ≤ end }
     requires end { end ≤ length values.now }
@@ -19,7 +20,8 @@ fn part_before(values: &[Value], end: usize, count: usize) -> &[Value]
 
 impl CallStack {
     /// The frame of the running method.
-    fn running(&self) -> Frame
+    #[inline(always)]
+    pub fn running(&self) -> Frame
         requires { 0 < length self.now.frames.items }
         ensures { IsLast self.now.frames.items result }
     {

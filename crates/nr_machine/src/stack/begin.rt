@@ -1,17 +1,29 @@
 //! The first frame of a run (JVM Specification 2.6.1).
 
-ghost use Rattle.std.specs.Prelude.{◌≡◌, ◌∷◌, [], IsSomeAnd, false, reverse, true};
+ghost use Rattle.std.specs.Prelude.{◌≡◌, ◌∷◌, [], IsSome, IsSomeAnd, List, false, reverse, true};
 ghost use Rattle.nr_linked.specs.Facts.{ProgramFacts};
 ghost use Rattle.nr_linked.specs.Programs.{method_at};
+ghost use Rattle.nr_model.specs.declared.value.Value.{Value as Held};
+ghost use Rattle.nr_model.specs.Heaps.{Heap as Objects};
+ghost use Rattle.nr_model.specs.Locals.{Begins};
 ghost use Rattle.nr_model.specs.Outcomes.{is_too_deep};
-ghost use Rattle.nr_model.specs.States.{Running};
+ghost use Rattle.nr_model.specs.States.{Running, State};
 ghost use Rattle.nr_model.specs.Steps.{first_frame};
 ghost use Rattle.nr_machine.specs.CallStacks.{CanBegin, IsStack, frames_of};
 
 use super::arguments::push_first_window;
-use super::{CallStack, Frame};
+use super::{CallStack, Frame, MAX_VALUES};
 use nr_linked::{MethodId, Program};
 use nr_model::Value;
+
+/// Whether the first frame of a run that begins with the method passes a limit by itself.
+pub fn is_first_too_deep(program: &Program, method: MethodId) -> bool
+    requires { IsSome (method_at program.now method) }
+    ensures { (h : Objects) (args : List Held) (s : State) → Begins program.now h method args s → is_too_deep program.now s.control ≡ result }
+{
+    let info = program.method(method);
+    usize::from(info.max_locals) + usize::from(info.max_stack) > MAX_VALUES
+}
 
 impl CallStack {
     /// Makes the frame of the first method, with its arguments, the first first. It answers false where that

@@ -13,9 +13,10 @@ use super::{CallStack, Frame};
 use nr_linked::{MethodId, MethodInfo, Program};
 
 /// ACC_STATIC (JVM Specification 4.6, table 4.6-A).
-const STATIC: u16 = 0x0008;
+pub const STATIC: u16 = 0x0008;
 
 /// How many operands a call of the method takes: its arguments, and the receiver below them.
+#[inline(always)]
 pub fn operand_count(info: &MethodInfo) -> usize
     requires { length info.now.params ≤ 254 }
     ensures { result ≡ operands_of info.now }
@@ -30,6 +31,7 @@ pub fn operand_count(info: &MethodInfo) -> usize
 impl CallStack {
     /// Enters a method that the running frame calls: its topmost operands, the arguments, become the first
     /// locals of a new frame. It answers false, and changes nothing, where that would pass a limit.
+    #[inline(always)]
     pub fn enter(&mut self, program: &Program, method: MethodId) -> bool
         requires facts { ProgramFacts program.now }
         requires stack { IsStack program.now self.old.frames.items self.old.values.items }

@@ -12,6 +12,7 @@ use nr_model::Value;
 use nr_prog::Instr;
 
 /// The instructions of a method's code; none where it has no code.
+#[inline(always)]
 pub fn code_of(program: &Program, method: MethodId) -> &[Instr]
     requires { method < length program.now.methods }
     ensures { result.now ≡ code_at program.now method }
@@ -25,6 +26,7 @@ pub fn code_of(program: &Program, method: MethodId) -> &[Instr]
 impl CallStack {
     /// A method returned to the running frame, with its result where it has one: the frame goes on at its next
     /// instruction, with the result as an operand. It answers false where there is no frame.
+    #[inline(always)]
     pub fn go_on(&mut self, program: &Program, value: Option<Value>) -> bool
         requires facts { ProgramFacts program.now }
         requires stack { IsStack program.now self.old.frames.items self.old.values.items }
@@ -58,6 +60,7 @@ impl CallStack {
 
     /// The running method returns, with its result where it has one, to the frame below. It answers false
     /// where there is none below.
+    #[inline(always)]
     pub fn give(&mut self, program: &Program, value: Option<Value>) -> bool
         requires facts { ProgramFacts program.now }
         requires stack { IsStack program.now self.old.frames.items self.old.values.items }

@@ -10,6 +10,7 @@ use nr_model::Value;
 
 impl CallStack {
     /// Takes the running frame away, with its values.
+    #[inline(always)]
     pub fn drop_running(&mut self, program: &Program)
         requires some { 0 < length self.old.frames.items }
         requires stack { IsStack program.now self.old.frames.items self.old.values.items }
@@ -27,6 +28,7 @@ impl CallStack {
     }
 
     /// Puts a frame, which was taken from the top, back there with one more operand.
+    #[inline(always)]
     pub fn put_back(&mut self, program: &Program, frame: Frame, operand: Value)
         requires stack { IsStack program.now (self.old.frames.items ++ frame ∷ []) self.old.values.items }
         requires room { IsSomeAnd (method_at program.now frame.method) (λ i. frame.depth + 1 ≤ i.max_stack) }

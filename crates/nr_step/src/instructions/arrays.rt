@@ -1,18 +1,19 @@
 //! Instructions on arrays, with their whole rules.
 
-ghost use Rattle.std.specs.Prelude.{◌≡◌, ◌≤◌, length, IsSome, IsTrue};
+ghost use Rattle.std.specs.Prelude.{◌≡◌, ◌≤◌, length, IsSome, IsSomeAnd, IsTrue};
+ghost use Rattle.std.specs.FinMap.{get};
 ghost use Rattle.nr_linked.specs.ArrayKinds.{elements_of};
 ghost use Rattle.nr_step.specs.Instructions.{CanReach, IsRowOf, Reaches, is_array_load, is_int_store};
-ghost use Rattle.nr_model.specs.ArrayRules.{narrowed};
-ghost use Rattle.nr_step.specs.Elements.{holds_ints, place_of};
+ghost use Rattle.nr_model.specs.Belonging.{IfName};
+ghost use Rattle.nr_step.specs.Elements.{holds_ints, may_stand, place_of};
 
 use crate::flow::{Flow, Told};
+use crate::kept::narrow;
 use crate::operands::{pop, pop_int, pop_long, push, reference_at, top_int};
 use crate::throws::throw_object;
 use nr_heap::Heap;
-use nr_linked::{Base, BuiltIn, Program};
-use nr_model::Value;
-use nr_optable::{int_to_byte, int_to_char, int_to_short};
+use nr_linked::{BuiltIn, Kind, Program};
+use nr_model::{Ref, Value};
 use nr_prog::Instr;
 
 /// The place of an element, or `None` where an array of so many has none at the index.
@@ -61,20 +62,6 @@ pub fn array_load(
     let _ = pop(stack, depth);
     push(stack, depth, value);
     Flow::Next
-}
-
-/// What a place of a primitive type keeps of an int.
-#[inline(always)]
-fn narrow(base: Base, n: i32) -> i32
-    ensures { result ≡ narrowed base n }
-{
-    match base {
-        Base::Bool => (n.cast_unsigned() % 2).cast_signed(),
-        Base::Byte => i32::from(int_to_byte(n)),
-        Base::Char => i32::from(int_to_char(n)),
-        Base::Short => i32::from(int_to_short(n)),
-        Base::Int | Base::Long | Base::Object(_) => n,
-    }
 }
 
 /// iastore, bastore, castore, sastore.
@@ -142,6 +129,59 @@ pub fn lastore(
         return throw_object(p, heap, BuiltIn::ArrayIndexOutOfBoundsException, told);
     };
     heap.set_slot(name, place, Value::Long(value));
+    let _ = pop(stack, &mut below);
+    *depth = below;
+    Flow::Next
+}
+
+/// Whether a reference may stand in an array with elements of the kind (JVM Specification 6.5,
+/// aastore).
+#[inline(always)]
+fn may_stand(p: &Program, heap: &Heap, elem: Kind, reference: Option<Ref>) -> bool
+    requires { IfName reference (λ a. IsSomeAnd (get heap.now.objects a) (λ o. Unit {0})) }
+    ensures { result ≡ may_stand p.now heap.now.objects elem reference }
+{
+    match reference {
+        None => true,
+        Some(name) => p.is_sub(heap.kind_of(name), elem),
+    }
+}
+
+/// aastore.
+#[inline(always)]
+pub fn aastore(
+    p: &Program,
+    i: &Instr,
+    heap: &mut Heap,
+    stack: &[Value],
+    depth: &mut usize,
+    told: &mut Told,
+) -> Flow
+    requires row { IsRowOf 83 i.now.row }
+    requires room { depth.old ≤ length stack.now }
+    requires can { CanReach p.now i.now heap.old.objects stack.now depth.old }
+    ensures went { Reaches result p.now i.now heap.old.objects stack.now depth.old told.new heap.new.objects stack.now depth.new }
+    ensures room { depth.new ≤ length stack.now }
+{
+    let mut below = *depth;
+    let value = pop(stack, &mut below);
+    let index = pop_int(stack, &mut below);
+    let Some(name) = reference_at(0, stack, below) else {
+        return throw_object(p, heap, BuiltIn::NullPointerException, told);
+    };
+    let len = heap.len_of(name).unwrap();
+    let Some(place) = place_within(index, len) else {
+        return throw_object(p, heap, BuiltIn::ArrayIndexOutOfBoundsException, told);
+    };
+    let kind = heap.kind_of(name);
+    let elem = Kind {
+        dims: kind.dims - 1,
+        base: kind.base,
+    };
+    if !may_stand(p, heap, elem, reference_at(0, stack, *depth)) {
+        return throw_object(p, heap, BuiltIn::ArrayStoreException, told);
+    }
+    heap.set_slot(name, place, value);
     let _ = pop(stack, &mut below);
     *depth = below;
     Flow::Next

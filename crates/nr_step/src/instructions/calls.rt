@@ -6,6 +6,7 @@ ghost use Rattle.nr_step.specs.Instructions.{CanFind, Finds, IsRowOf};
 
 use crate::flow::{Flow, Told};
 use crate::operands::reference_at;
+use crate::selections::Selections;
 use crate::throws::throw_object;
 use nr_heap::Heap;
 use nr_linked::{Base, BuiltIn, ClassId, Kind, MethodId, Program, Resolved};
@@ -28,17 +29,25 @@ fn receiver_class(p: &Program, kind: Kind) -> Option<ClassId>
 
 /// The method that a call runs where the receiver is of the kind.
 #[inline(always)]
-fn selected_for(p: &Program, method: MethodId, kind: Kind) -> Option<MethodId>
-    ensures { result ≡ selected_by p.now method kind }
+fn selected_for(
+    p: &Program,
+    selections: &mut Selections<'_>,
+    method: MethodId,
+    kind: Kind,
+) -> Option<MethodId>
+    requires same { selections.old ≡ p.now }
+    ensures selected { result ≡ selected_by p.now method kind }
+    ensures same { selections.new ≡ selections.old }
 {
     let class = receiver_class(p, kind)?;
-    p.select(method, class)
+    selections.select(method, class)
 }
 
 /// invokevirtual.
 #[inline(always)]
 pub fn invokevirtual(
     p: &Program,
+    selections: &mut Selections<'_>,
     i: &Instr,
     found: &Resolved,
     heap: &mut Heap,
@@ -48,8 +57,10 @@ pub fn invokevirtual(
 ) -> Flow
     requires row { IsRowOf 182 i.now.row }
     requires room { depth ≤ length stack.now }
+    requires same { selections.old ≡ p.now }
     requires can { CanFind p.now i.now found.now heap.old.objects stack.now depth }
-    ensures { Finds result p.now i.now found.now heap.old.objects stack.now depth told.new heap.new.objects stack.now depth }
+    ensures went { Finds result p.now i.now found.now heap.old.objects stack.now depth told.new heap.new.objects stack.now depth }
+    ensures same { selections.new ≡ selections.old }
 {
     let Resolved::Method(method, _) = found else {
         unreachable!()
@@ -60,7 +71,7 @@ pub fn invokevirtual(
     let Some(name) = reference_at(info.params.len(), stack, depth) else {
         return throw_object(p, heap, BuiltIn::NullPointerException, told);
     };
-    let Some(selected) = selected_for(p, *method, heap.kind_of(name)) else {
+    let Some(selected) = selected_for(p, selections, *method, heap.kind_of(name)) else {
         return throw_object(p, heap, BuiltIn::AbstractMethodError, told);
     };
     told.number = selected;
@@ -71,6 +82,7 @@ pub fn invokevirtual(
 #[inline(always)]
 pub fn invokeinterface(
     p: &Program,
+    selections: &mut Selections<'_>,
     i: &Instr,
     found: &Resolved,
     heap: &mut Heap,
@@ -80,8 +92,10 @@ pub fn invokeinterface(
 ) -> Flow
     requires row { IsRowOf 185 i.now.row }
     requires room { depth ≤ length stack.now }
+    requires same { selections.old ≡ p.now }
     requires can { CanFind p.now i.now found.now heap.old.objects stack.now depth }
-    ensures { Finds result p.now i.now found.now heap.old.objects stack.now depth told.new heap.new.objects stack.now depth }
+    ensures went { Finds result p.now i.now found.now heap.old.objects stack.now depth told.new heap.new.objects stack.now depth }
+    ensures same { selections.new ≡ selections.old }
 {
     let Resolved::Method(method, named) = found else {
         unreachable!()
@@ -100,7 +114,7 @@ pub fn invokeinterface(
     if !p.is_sub(kind, interface) {
         return throw_object(p, heap, BuiltIn::IncompatibleClassChangeError, told);
     }
-    let Some(selected) = selected_for(p, *method, kind) else {
+    let Some(selected) = selected_for(p, selections, *method, kind) else {
         return throw_object(p, heap, BuiltIn::AbstractMethodError, told);
     };
     told.number = selected;

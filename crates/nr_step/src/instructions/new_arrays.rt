@@ -2,22 +2,24 @@
 
 ghost use Rattle.std.specs.Prelude.{◌≡◌, ◌≤◌, ℕ, length, List, Option};
 ghost use Rattle.nr_linked.specs.declared.program.tables.MethodInfo.{MethodInfo};
+ghost use Rattle.nr_linked.specs.declared.program.tables.Resolved.{Resolved};
+ghost use Rattle.nr_linked.specs.ArrayKinds.{primitive_of};
 ghost use Rattle.nr_linked.specs.TypingFacts.{SiteFacts};
 ghost use Rattle.nr_model.specs.declared.value.Value.{Value};
 ghost use Rattle.nr_model.specs.ArrayRules.{new_array};
 ghost use Rattle.nr_model.specs.Throws.{onward};
 ghost use Rattle.nr_step.specs.Elements.{count_of};
 ghost use Rattle.nr_step.specs.Flows.{Doing, Went};
-ghost use Rattle.nr_step.specs.Instructions.{CanFind, Finds, IsRowOf, site_of};
+ghost use Rattle.nr_step.specs.Instructions.{CanFind, CanReach, Finds, IsRowOf, Reaches, site_of};
 ghost use Rattle.nr_step.specs.Windows.{CanBegin, window};
 
 use crate::flow::{Flow, Told};
 use crate::operands::{pop_int, push};
 use crate::throws::throw_object;
 use nr_heap::{Heap, HeapFault};
-use nr_linked::{BuiltIn, Kind, Program, Resolved};
+use nr_linked::{Base, BuiltIn, Kind, Program, Resolved};
 use nr_model::Value;
-use nr_prog::Instr;
+use nr_prog::{Args, Instr};
 
 /// How many elements a new array has, or `None` where the count is negative.
 #[inline(always)]
@@ -65,6 +67,49 @@ fn make_array(
         }
         Err(HeapFault::NoMemory) => Flow::NoMemory,
     }
+}
+
+/// The primitive type of a code (JVM Specification 6.5, table 6.5.newarray-A).
+#[inline(always)]
+fn primitive_of(code: u8) -> Option<Base>
+    ensures { result ≡ primitive_of code }
+{
+    match code {
+        4 => Some(Base::Bool),
+        5 => Some(Base::Char),
+        8 => Some(Base::Byte),
+        9 => Some(Base::Short),
+        10 => Some(Base::Int),
+        11 => Some(Base::Long),
+        _ => None,
+    }
+}
+
+/// newarray.
+#[inline(always)]
+pub fn newarray(
+    p: &Program,
+    i: &Instr,
+    heap: &mut Heap,
+    stack: &mut [Value],
+    depth: &mut usize,
+    told: &mut Told,
+) -> Flow
+    requires row { IsRowOf 188 i.now.row }
+    requires site { (own : MethodInfo) × (found : Resolved) × (n : Option ℕ) × SiteFacts p.now own.«class» (site_of i.now found n) }
+    requires room { depth.old ≤ length stack.old }
+    requires can { CanReach p.now i.now heap.old.objects stack.old depth.old }
+    ensures went { Reaches result p.now i.now heap.old.objects stack.old depth.old told.new heap.new.objects stack.new depth.new }
+    ensures room { depth.new ≤ length stack.new }
+    ensures length { length stack.new ≡ length stack.old }
+{
+    let Args::Prim(code) = &i.args else {
+        unreachable!()
+    };
+    let Some(base) = primitive_of(*code) else {
+        unreachable!()
+    };
+    make_array(p, Kind { dims: 0, base }, heap, stack, depth, told)
 }
 
 /// anewarray.

@@ -1,21 +1,21 @@
-use Rattle.std.proofs.Common.{◌≡◌, ◌≤◌, ◌<◌, ◌+◌, ◌++◌, ◌∷◌, [], ◌∙◌, length, List, refl, sym, ap, arith, subst, subst₂}
-use Rattle.std.specs.Prelude.{Option, Some, None, drop}
+use Rattle.std.proofs.Common.{◌≡◌, ◌≤◌, ◌<◌, ◌++◌, ◌∷◌, ◌∙◌, length, sym, ap, arith, subst, subst₂}
+use Rattle.std.specs.Prelude.{Some, drop}
 use Rattle.std.proofs.lemmas.List.{length-append}
 use Rattle.nr_linked.specs.declared.program.tables.MethodInfo.{MethodInfo}
 use Rattle.nr_linked.specs.declared.program.tables.ProgramTables.{ProgramTables}
 use Rattle.nr_linked.specs.Facts.{ProgramFacts}
 use Rattle.nr_linked.specs.Programs.{method_at, result_of}
-use Rattle.nr_model.specs.Asks.{Answered, Asks, waiting}
+use Rattle.nr_model.specs.Asks.{Answered, Asks}
 use Rattle.nr_model.specs.Belonging.{IsResult}
 use Rattle.nr_model.specs.Heaps.{Heap}
 use Rattle.nr_model.specs.Outcomes.{OutputTooLong, max_printed}
-use Rattle.nr_model.specs.States.{Control, Frame, Running}
+use Rattle.nr_model.specs.States.{Control, Running}
 use Rattle.nr_model.specs.Steps.{given}
 use Rattle.nr_machine.specs.CallStacks.{CanGoOn, IsCallOf, IsStack, OnRunning, frames_of}
 use Rattle.nr_machine.specs.Executions.{Execution, IsAsking, Stands, state_in}
 use Rattle.nr_machine.specs.Resumed.{AnswerPasses, Resumed}
 use Rattle.nr_typed.specs.Standing.{StandsIn}
-use Rattle.nr_machine.specs.Machines.{control_of}
+use Rattle.nr_machine.specs.Machines.{control_of, execution_of}
 use Rattle.nr_machine.proofs.AskingMachines.{some_frames}
 use Rattle.nr_machine.proofs.Resuming.{after_it, answer_passes, before_it, go_on_can, method_there, resumed, still_stands, waits}
 use Rattle.nr_machine.proofs.machine.Machine.resume.Goals as goal
@@ -184,3 +184,9 @@ returns-clause-stands c = λ kd sd.
           (still_stands P c.self.inside.service c.self.inside.budget c.self.inside.steps fs vs old last asking k kd there.0 facts.typing there.1 v value c.args.printed.now
           c.called_method-method.result call i is_m n c.operand_count-count.ensures (frames_of P ms us) r (Running (frames_of P gs ws)) given_is),
     )
+
+pub overflow_add-self : goal.overflow_add-self
+overflow_add-self c =
+    let a : IsAsking (execution_of c.self.inside) = subst IsAsking (sym c.self.view_is) c.requires.asking in
+    let l : c.self.inside.steps < c.self.inside.budget = a.in_budget in
+    omega (arith, l)

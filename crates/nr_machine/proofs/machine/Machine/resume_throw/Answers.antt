@@ -1,5 +1,5 @@
-use Rattle.std.proofs.Common.{◌≡◌, ◌<◌, ◌++◌, ◌∷◌, ◌∙◌, length, refl, sym, ap, subst, subst₂}
-use Rattle.std.specs.Prelude.{Option, Some, None, IsTrue, drop}
+use Rattle.std.proofs.Common.{◌≡◌, ◌<◌, ◌∷◌, ◌∙◌, length, refl, sym, ap, subst, subst₂, arith, ℕ}
+use Rattle.std.specs.Prelude.{Some, IsTrue, drop}
 use Rattle.std.specs.FinMap.{insert}
 use Rattle.nr_linked.specs.declared.program.built_in.BuiltIn.TheVariants.{RemoteFault}
 use Rattle.nr_linked.specs.declared.program.tables.MethodInfo.{MethodInfo}
@@ -18,9 +18,9 @@ use Rattle.nr_typed.specs.Standing.{StandsIn}
 use Rattle.nr_machine.specs.declared.answer.Turn.TheVariants.{Thrown}
 use Rattle.nr_machine.specs.CallStacks.{CanGoOn, IsCallOf, IsStack, OnRunning, frames_of}
 use Rattle.nr_machine.specs.Executions.{Execution, IsAsking, Stands, state_in}
-use Rattle.nr_machine.specs.Machines.{control_of}
+use Rattle.nr_machine.specs.Machines.{control_of, execution_of}
 use Rattle.nr_machine.specs.Resumed.{Resumed}
-use Rattle.nr_machine.proofs.AskingMachines.{asks_in, method_is, waiting_is}
+use Rattle.nr_machine.proofs.AskingMachines.{some_call, asks_in, method_is, waiting_is}
 use Rattle.nr_machine.proofs.Calls.{in_range}
 use Rattle.nr_machine.proofs.Resuming.{after_it, before_it}
 use Rattle.nr_machine.proofs.Throwing.{caught, throw_can, throw_stands, uncaught}
@@ -288,3 +288,20 @@ returns-clause-stands c = λ kd sd.
       subst₂ (λ hp (d : Control). StandsIn P there.0.frames kd (record { heap = hp; control = d; printed = old })) (sym made) unwound_is
           (throw_stands P facts.typing there.0 kd service (state_in h x) asks there.1 name fresh (frames_of P ms us) waits),
     )
+
+pub overflow_add-self : goal.overflow_add-self
+overflow_add-self c =
+    let a : IsAsking (execution_of c.self.inside) = subst IsAsking (sym c.self.view_is) c.requires.asking in
+    let l : c.self.inside.steps < c.self.inside.budget = a.in_budget in
+    omega (arith, l)
+
+pub called_method-method-requires-clause-call : goal.called_method-method-requires-clause-call
+called_method-method-requires-clause-call c =
+    let Pr : ProgramTables = c.program-program.result.now in
+    let P : ProgramTables = c.self.inside.program.now in
+    let same : Pr ≡ P = c.program-program.ensures.program in
+    let fs = c.self.inside.stack.frames.items in
+    let vs = c.self.inside.stack.values.items in
+    let a : IsAsking (execution_of c.self.inside) = subst IsAsking (sym c.self.view_is) c.requires.asking in
+    subst (λ (q : ProgramTables). OnRunning (frames_of q fs vs) (λ f others. (m : ℕ) × IsCallOf q f m)) (sym same)
+    (some_call P c.self.inside.service fs vs c.self.inside.last a.heap c.self.inside.printed.items a.going a.asks)

@@ -1,4 +1,4 @@
-use Rattle.std.proofs.Common.{◌≡◌, ◌∙◌, ℕ, ℤ, List, length, Option, Some, None, sym, subst, ap, ap₂, refl, true, of_z, to_z, w32, SFits, rules, IsSome}
+use Rattle.std.proofs.Common.{◌≡◌, ◌∙◌, ℕ, ℤ, List, length, Option, Some, None, sym, subst, ap₂, refl, true, of_z, to_z, w32, SFits, rules, IsSome}
 use Rattle.std.proofs.lemmas.Int.{to_z-of_z}
 use Rattle.nr_linked.specs.ArrayKinds.{Elements, elements_of}
 use Rattle.nr_linked.specs.declared.program.tables.ProgramTables.{ProgramTables}

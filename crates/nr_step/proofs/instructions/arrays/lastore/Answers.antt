@@ -4,9 +4,8 @@ use Rattle.nr_linked.specs.ArrayKinds.{Of}
 use Rattle.nr_linked.specs.declared.program.kind.Base.TheVariants as bases
 use Rattle.nr_step.proofs.ArrayStores.{element_array, element_asks, keeps_element, kept_long, long_kept, long_over, long_store_next, long_store_rule, long_store_top, long_stored, slot_written, store_leads, store_null, store_out}
 use Rattle.nr_model.specs.declared.value.Value.{Value}
-use Rattle.nr_model.specs.declared.value.Value.TheVariants.{Int, Long}
+use Rattle.nr_model.specs.declared.value.Value.TheVariants.{Long}
 use Rattle.nr_model.specs.Scripts.{Runs, WriteSlot}
-use Rattle.nr_model.specs.ArrayRules.{narrowed}
 use Rattle.nr_heap.specs.Contents.{IsOfKind}
 use Rattle.nr_step.specs.Elements.{place_of}
 use Rattle.nr_step.specs.Instructions.{doing}
@@ -33,11 +32,11 @@ reference_at-requires-clause-some c =
     let b = begin_by c.args.p.now can.0 c.args.i.now can.1 (window c.args.heap.now.objects can.2 c.args.stack.now c.args.depth.now) (length c.args.stack.now) (long_stored c.args.p.now) (long_store_rule c.args.p.now can.0 c.args.i.now can.1 c.requires.row) can.3 in
     let rest : List Value = top_first c.args.stack.now c.pop_int-index.new.depth in
     let x = (long_over c.args.p.now c.pop_long-value.result c.pop_int-index.result (top_first c.args.stack.now c.args.depth.now) (top_first c.args.stack.now c.pop_long-value.new.depth) rest c.pop_long-value.ensures.popped c.pop_int-index.ensures.popped b.0 c.args.heap.now.objects can.2 b.1 b.2).0 b.3 in
-    element_asks c.args.p.now (Of bases.Long) c.pop_int-index.result (kept_long c.pop_long-value.result b.0) c.args.heap.now.objects can.2 rest b.1 b.2 x
+    element_asks c.args.p.now 0 (Of bases.Long) c.pop_int-index.result (kept_long c.pop_long-value.result b.0) c.args.heap.now.objects can.2 rest b.1 b.2 x
 
 pub returns-in_default-clause-went : goal.returns-in_default-clause-went
 returns-in_default-clause-went c = λ own found ls.
-    store_null c.throw_object.result c.args.p.now (doing c.args.p.now own c.args.i.now found) (long_stored c.args.p.now) (Of bases.Long) (λ s. kept_long c.pop_long-value.result s) c.pop_int-index.result c.args.heap.now.objects c.throw_object.new.heap.objects ls (top_first c.args.stack.now c.args.depth.now) (top_first c.args.stack.now c.pop_int-index.new.depth) c.throw_object.new.told
+    store_null c.throw_object.result c.args.p.now (doing c.args.p.now own c.args.i.now found) (long_stored c.args.p.now) 0 (Of bases.Long) (λ s. kept_long c.pop_long-value.result s) c.pop_int-index.result c.args.heap.now.objects c.throw_object.new.heap.objects ls (top_first c.args.stack.now c.args.depth.now) (top_first c.args.stack.now c.pop_int-index.new.depth) c.throw_object.new.told
     (long_over c.args.p.now c.pop_long-value.result c.pop_int-index.result (top_first c.args.stack.now c.args.depth.now) (top_first c.args.stack.now c.pop_long-value.new.depth) (top_first c.args.stack.now c.pop_int-index.new.depth) c.pop_long-value.ensures.popped c.pop_int-index.ensures.popped) c.in_default.ensures (long_store_rule c.args.p.now own c.args.i.now found c.requires.row) c.throw_object.ensures
 
 pub len_of-requires : goal.len_of-requires
@@ -46,7 +45,7 @@ len_of-requires c =
     let b = begin_by c.args.p.now can.0 c.args.i.now can.1 (window c.args.heap.now.objects can.2 c.args.stack.now c.args.depth.now) (length c.args.stack.now) (long_stored c.args.p.now) (long_store_rule c.args.p.now can.0 c.args.i.now can.1 c.requires.row) can.3 in
     let rest : List Value = top_first c.args.stack.now c.pop_int-index.new.depth in
     let x = (long_over c.args.p.now c.pop_long-value.result c.pop_int-index.result (top_first c.args.stack.now c.args.depth.now) (top_first c.args.stack.now c.pop_long-value.new.depth) rest c.pop_long-value.ensures.popped c.pop_int-index.ensures.popped b.0 c.args.heap.now.objects can.2 b.1 b.2).0 b.3 in
-    let y = element_array c.args.p.now (Of bases.Long) c.pop_int-index.result (kept_long c.pop_long-value.result b.0) c.in-Some.name c.args.heap.now.objects can.2 rest b.1 b.2 c.in-Some.ensures x in
+    let y = element_array c.args.p.now 0 (Of bases.Long) c.pop_int-index.result (kept_long c.pop_long-value.result b.0) c.in-Some.name c.args.heap.now.objects can.2 rest b.1 b.2 c.in-Some.ensures x in
     held c.args.heap.now.objects c.in-Some.name (Of bases.Long) y (λ o. Unit {0}) y tt
 
 pub unwrap-len-requires : goal.unwrap-len-requires
@@ -55,7 +54,7 @@ unwrap-len-requires c =
     let b = begin_by c.args.p.now can.0 c.args.i.now can.1 (window c.args.heap.now.objects can.2 c.args.stack.now c.args.depth.now) (length c.args.stack.now) (long_stored c.args.p.now) (long_store_rule c.args.p.now can.0 c.args.i.now can.1 c.requires.row) can.3 in
     let rest : List Value = top_first c.args.stack.now c.pop_int-index.new.depth in
     let x = (long_over c.args.p.now c.pop_long-value.result c.pop_int-index.result (top_first c.args.stack.now c.args.depth.now) (top_first c.args.stack.now c.pop_long-value.new.depth) rest c.pop_long-value.ensures.popped c.pop_int-index.ensures.popped b.0 c.args.heap.now.objects can.2 b.1 b.2).0 b.3 in
-    let y = element_array c.args.p.now (Of bases.Long) c.pop_int-index.result (kept_long c.pop_long-value.result b.0) c.in-Some.name c.args.heap.now.objects can.2 rest b.1 b.2 c.in-Some.ensures x in
+    let y = element_array c.args.p.now 0 (Of bases.Long) c.pop_int-index.result (kept_long c.pop_long-value.result b.0) c.in-Some.name c.args.heap.now.objects can.2 rest b.1 b.2 c.in-Some.ensures x in
     subst (λ r. IsSome r) (sym (len_is c.args.heap.now.objects c.in-Some.name (Of bases.Long) y c.len_of.result c.len_of.ensures)) refl
 
 pub returns-in_default-place_within-clause-went : goal.returns-in_default-place_within-clause-went
@@ -64,12 +63,12 @@ returns-in_default-place_within-clause-went c = λ own found ls.
     let b = begin_by c.args.p.now can.0 c.args.i.now can.1 (window c.args.heap.now.objects can.2 c.args.stack.now c.args.depth.now) (length c.args.stack.now) (long_stored c.args.p.now) (long_store_rule c.args.p.now can.0 c.args.i.now can.1 c.requires.row) can.3 in
     let rest : List Value = top_first c.args.stack.now c.pop_int-index.new.depth in
     let x = (long_over c.args.p.now c.pop_long-value.result c.pop_int-index.result (top_first c.args.stack.now c.args.depth.now) (top_first c.args.stack.now c.pop_long-value.new.depth) rest c.pop_long-value.ensures.popped c.pop_int-index.ensures.popped b.0 c.args.heap.now.objects can.2 b.1 b.2).0 b.3 in
-    let y = element_array c.args.p.now (Of bases.Long) c.pop_int-index.result (kept_long c.pop_long-value.result b.0) c.in-Some.name c.args.heap.now.objects can.2 rest b.1 b.2 c.in-Some.ensures x in
+    let y = element_array c.args.p.now 0 (Of bases.Long) c.pop_int-index.result (kept_long c.pop_long-value.result b.0) c.in-Some.name c.args.heap.now.objects can.2 rest b.1 b.2 c.in-Some.ensures x in
     let n = same_number c.len_of.result c.unwrap-len.result (length y.object.slots) c.unwrap-len.ensures (len_is c.args.heap.now.objects c.in-Some.name (Of bases.Long) y c.len_of.result c.len_of.ensures) in
     let fits : SFits w32 c.pop_int-index.result = search rules in
     let same : (o : Option ℕ) → o ≡ place_of (to_z w32 (of_z w32 c.pop_int-index.result)) c.unwrap-len.result → place_of c.pop_int-index.result (length y.object.slots) ≡ o =
     λ o e. ap₂ place_of (sym (to_z-of_z w32 c.pop_int-index.result fits)) (sym n) ∙ sym e in
-    store_out c.throw_object-in_default-place_within.result c.args.p.now (doing c.args.p.now own c.args.i.now found) (long_stored c.args.p.now) (Of bases.Long) (λ s. kept_long c.pop_long-value.result s) c.pop_int-index.result c.in-Some.name c.args.heap.now.objects c.throw_object-in_default-place_within.new.heap.objects ls (top_first c.args.stack.now c.args.depth.now) rest c.throw_object-in_default-place_within.new.told
+    store_out c.throw_object-in_default-place_within.result c.args.p.now (doing c.args.p.now own c.args.i.now found) (long_stored c.args.p.now) 0 (Of bases.Long) (λ s. kept_long c.pop_long-value.result s) c.pop_int-index.result c.in-Some.name c.args.heap.now.objects c.throw_object-in_default-place_within.new.heap.objects ls (top_first c.args.stack.now c.args.depth.now) rest c.throw_object-in_default-place_within.new.told
     (long_over c.args.p.now c.pop_long-value.result c.pop_int-index.result (top_first c.args.stack.now c.args.depth.now) (top_first c.args.stack.now c.pop_long-value.new.depth) (top_first c.args.stack.now c.pop_int-index.new.depth) c.pop_long-value.ensures.popped c.pop_int-index.ensures.popped) c.in-Some.ensures y (same None c.in_default-place_within.ensures) (long_store_rule c.args.p.now own c.args.i.now found c.requires.row) c.throw_object-in_default-place_within.ensures
 
 pub set_slot-requires-clause-slot : goal.set_slot-requires-clause-slot
@@ -78,7 +77,7 @@ set_slot-requires-clause-slot c =
     let b = begin_by c.args.p.now can.0 c.args.i.now can.1 (window c.args.heap.now.objects can.2 c.args.stack.now c.args.depth.now) (length c.args.stack.now) (long_stored c.args.p.now) (long_store_rule c.args.p.now can.0 c.args.i.now can.1 c.requires.row) can.3 in
     let rest : List Value = top_first c.args.stack.now c.pop_int-index.new.depth in
     let x = (long_over c.args.p.now c.pop_long-value.result c.pop_int-index.result (top_first c.args.stack.now c.args.depth.now) (top_first c.args.stack.now c.pop_long-value.new.depth) rest c.pop_long-value.ensures.popped c.pop_int-index.ensures.popped b.0 c.args.heap.now.objects can.2 b.1 b.2).0 b.3 in
-    let y = element_array c.args.p.now (Of bases.Long) c.pop_int-index.result (kept_long c.pop_long-value.result b.0) c.in-Some.name c.args.heap.now.objects can.2 rest b.1 b.2 c.in-Some.ensures x in
+    let y = element_array c.args.p.now 0 (Of bases.Long) c.pop_int-index.result (kept_long c.pop_long-value.result b.0) c.in-Some.name c.args.heap.now.objects can.2 rest b.1 b.2 c.in-Some.ensures x in
     let n = same_number c.len_of.result c.unwrap-len.result (length y.object.slots) c.unwrap-len.ensures (len_is c.args.heap.now.objects c.in-Some.name (Of bases.Long) y c.len_of.result c.len_of.ensures) in
     let fits : SFits w32 c.pop_int-index.result = search rules in
     let same : (o : Option ℕ) → o ≡ place_of (to_z w32 (of_z w32 c.pop_int-index.result)) c.unwrap-len.result → place_of c.pop_int-index.result (length y.object.slots) ≡ o =
@@ -91,7 +90,7 @@ set_slot-requires-clause-keeps c =
     let b = begin_by c.args.p.now can.0 c.args.i.now can.1 (window c.args.heap.now.objects can.2 c.args.stack.now c.args.depth.now) (length c.args.stack.now) (long_stored c.args.p.now) (long_store_rule c.args.p.now can.0 c.args.i.now can.1 c.requires.row) can.3 in
     let rest : List Value = top_first c.args.stack.now c.pop_int-index.new.depth in
     let x = (long_over c.args.p.now c.pop_long-value.result c.pop_int-index.result (top_first c.args.stack.now c.args.depth.now) (top_first c.args.stack.now c.pop_long-value.new.depth) rest c.pop_long-value.ensures.popped c.pop_int-index.ensures.popped b.0 c.args.heap.now.objects can.2 b.1 b.2).0 b.3 in
-    let y = element_array c.args.p.now (Of bases.Long) c.pop_int-index.result (kept_long c.pop_long-value.result b.0) c.in-Some.name c.args.heap.now.objects can.2 rest b.1 b.2 c.in-Some.ensures x in
+    let y = element_array c.args.p.now 0 (Of bases.Long) c.pop_int-index.result (kept_long c.pop_long-value.result b.0) c.in-Some.name c.args.heap.now.objects can.2 rest b.1 b.2 c.in-Some.ensures x in
     let fv : SFits w64 c.pop_long-value.result = search rules in
     let e = ap Long (to_z-of_z w64 c.pop_long-value.result fv) in
     keeps_element c.args.heap.now.objects c.in-Some.name (Of bases.Long) y (Long (to_z w64 (of_z w64 c.pop_long-value.result))) (subst (λ v. IsOfKind y.element v) (sym e) (long_kept y.element c.pop_long-value.result y.fits))
@@ -102,7 +101,7 @@ returns-clause-went c = λ own found ls.
     let b = begin_by c.args.p.now can.0 c.args.i.now can.1 (window c.args.heap.now.objects can.2 c.args.stack.now c.args.depth.now) (length c.args.stack.now) (long_stored c.args.p.now) (long_store_rule c.args.p.now can.0 c.args.i.now can.1 c.requires.row) can.3 in
     let rest : List Value = top_first c.args.stack.now c.pop_int-index.new.depth in
     let x = (long_over c.args.p.now c.pop_long-value.result c.pop_int-index.result (top_first c.args.stack.now c.args.depth.now) (top_first c.args.stack.now c.pop_long-value.new.depth) rest c.pop_long-value.ensures.popped c.pop_int-index.ensures.popped b.0 c.args.heap.now.objects can.2 b.1 b.2).0 b.3 in
-    let y = element_array c.args.p.now (Of bases.Long) c.pop_int-index.result (kept_long c.pop_long-value.result b.0) c.in-Some.name c.args.heap.now.objects can.2 rest b.1 b.2 c.in-Some.ensures x in
+    let y = element_array c.args.p.now 0 (Of bases.Long) c.pop_int-index.result (kept_long c.pop_long-value.result b.0) c.in-Some.name c.args.heap.now.objects can.2 rest b.1 b.2 c.in-Some.ensures x in
     let n = same_number c.len_of.result c.unwrap-len.result (length y.object.slots) c.unwrap-len.ensures (len_is c.args.heap.now.objects c.in-Some.name (Of bases.Long) y c.len_of.result c.len_of.ensures) in
     let fits : SFits w32 c.pop_int-index.result = search rules in
     let same : (o : Option ℕ) → o ≡ place_of (to_z w32 (of_z w32 c.pop_int-index.result)) c.unwrap-len.result → place_of c.pop_int-index.result (length y.object.slots) ≡ o =

@@ -25,20 +25,20 @@ reference_at-requires-clause-some c =
     let can = c.requires.can in
     receiver_asks c.args.p.now c.len.result (by_selection c.args.p.now c.in-Method.method) c.args.heap.now.objects can.1 (top_first c.args.stack.now c.args.depth) can.2.ending can.2.left (subst (λ sc. Runs sc (window c.args.heap.now.objects can.1 c.args.stack.now c.args.depth) can.2.ending can.2.left) (virtual_at c.args.p.now can.0 c.args.i.now c.args.found.now c.in-Method.method c.in-Method.field-1 c.len.result c.in-Some.info.now c.requires.row c.in-Method.is (sym c.in-Some.ensures) c.len.ensures can.2.next) can.2.runs)
 
-pub returns-in_default-reference_at : goal.returns-in_default-reference_at
-returns-in_default-reference_at c = λ own ls.
-    receiver_null c.throw_object.result c.args.p.now (doing c.args.p.now own c.args.i.now c.args.found.now) c.len.result (by_selection c.args.p.now c.in-Method.method) c.args.heap.now.objects c.throw_object.new.heap.objects ls (top_first c.args.stack.now c.args.depth) c.throw_object.new.told c.in_default-reference_at.ensures (virtual_at c.args.p.now own c.args.i.now c.args.found.now c.in-Method.method c.in-Method.field-1 c.len.result c.in-Some.info.now c.requires.row c.in-Method.is (sym c.in-Some.ensures) c.len.ensures) c.throw_object.ensures
+pub returns-in_default-reference_at-clause-went : goal.returns-in_default-reference_at-clause-went
+returns-in_default-reference_at-clause-went c = λ own ls.
+    receiver_null c.throw_object.result c.args.p.now (doing c.args.p.now own c.args.i.now c.args.found.now) c.len.result (λ n. by_selection c.args.p.now c.in-Method.method) c.args.heap.now.objects c.throw_object.new.heap.objects ls (top_first c.args.stack.now c.args.depth) c.throw_object.new.told c.in_default-reference_at.ensures (virtual_at c.args.p.now own c.args.i.now c.args.found.now c.in-Method.method c.in-Method.field-1 c.len.result c.in-Some.info.now c.requires.row c.in-Method.is (sym c.in-Some.ensures) c.len.ensures) c.throw_object.ensures
 
 pub kind_of-requires : goal.kind_of-requires
 kind_of-requires c =
     let can = c.requires.can in
     receiver_there c.args.p.now c.len.result c.in-Some-reference_at.name (by_selection c.args.p.now c.in-Method.method) c.args.heap.now.objects can.1 (top_first c.args.stack.now c.args.depth) can.2.ending can.2.left c.in-Some-reference_at.ensures (subst (λ sc. Runs sc (window c.args.heap.now.objects can.1 c.args.stack.now c.args.depth) can.2.ending can.2.left) (virtual_at c.args.p.now can.0 c.args.i.now c.args.found.now c.in-Method.method c.in-Method.field-1 c.len.result c.in-Some.info.now c.requires.row c.in-Method.is (sym c.in-Some.ensures) c.len.ensures can.2.next) can.2.runs)
 
-pub returns-in_default-selected_for : goal.returns-in_default-selected_for
-returns-in_default-selected_for c = λ own ls.
-    kind_thrown c.throw_object-in_default-selected_for.result c.args.p.now (doing c.args.p.now own c.args.i.now c.args.found.now) AbstractMethodError c.len.result c.in-Some-reference_at.name c.kind_of.result (by_selection c.args.p.now c.in-Method.method) c.args.heap.now.objects c.throw_object-in_default-selected_for.new.heap.objects ls (top_first c.args.stack.now c.args.depth) c.throw_object-in_default-selected_for.new.told
-    c.in-Some-reference_at.ensures c.kind_of.ensures (ap (call_selected c.args.p.now) (sym c.in_default-selected_for.ensures)) (virtual_at c.args.p.now own c.args.i.now c.args.found.now c.in-Method.method c.in-Method.field-1 c.len.result c.in-Some.info.now c.requires.row c.in-Method.is (sym c.in-Some.ensures) c.len.ensures) c.throw_object-in_default-selected_for.ensures
+pub returns-in_default-selected_for-clause-went : goal.returns-in_default-selected_for-clause-went
+returns-in_default-selected_for-clause-went c = λ own ls.
+    kind_thrown c.throw_object-in_default-selected_for.result c.args.p.now (doing c.args.p.now own c.args.i.now c.args.found.now) AbstractMethodError c.len.result c.in-Some-reference_at.name c.kind_of.result (λ n. by_selection c.args.p.now c.in-Method.method) c.args.heap.now.objects c.throw_object-in_default-selected_for.new.heap.objects ls (top_first c.args.stack.now c.args.depth) c.throw_object-in_default-selected_for.new.told
+    c.in-Some-reference_at.ensures c.kind_of.ensures (λ n. ap (call_selected c.args.p.now) (sym c.in_default-selected_for.ensures.selected)) (virtual_at c.args.p.now own c.args.i.now c.args.found.now c.in-Method.method c.in-Method.field-1 c.len.result c.in-Some.info.now c.requires.row c.in-Method.is (sym c.in-Some.ensures) c.len.ensures) c.throw_object-in_default-selected_for.ensures
 
-pub returns : goal.returns
-returns c = λ own ls.
-    (refl, kind_called c.args.p.now (doing c.args.p.now own c.args.i.now c.args.found.now) c.len.result c.in-Some-reference_at.name c.in-Some-selected_for.selected c.kind_of.result (by_selection c.args.p.now c.in-Method.method) c.args.heap.now.objects ls (top_first c.args.stack.now c.args.depth) c.in-Some-reference_at.ensures c.kind_of.ensures (ap (call_selected c.args.p.now) (sym c.in-Some-selected_for.ensures)) (virtual_at c.args.p.now own c.args.i.now c.args.found.now c.in-Method.method c.in-Method.field-1 c.len.result c.in-Some.info.now c.requires.row c.in-Method.is (sym c.in-Some.ensures) c.len.ensures))
+pub returns-clause-went : goal.returns-clause-went
+returns-clause-went c = λ own ls.
+    (refl, kind_called c.args.p.now (doing c.args.p.now own c.args.i.now c.args.found.now) c.len.result c.in-Some-reference_at.name c.in-Some-selected_for.selected c.kind_of.result (λ n. by_selection c.args.p.now c.in-Method.method) c.args.heap.now.objects ls (top_first c.args.stack.now c.args.depth) c.in-Some-reference_at.ensures c.kind_of.ensures (λ n. ap (call_selected c.args.p.now) (sym c.in-Some-selected_for.ensures.selected)) (virtual_at c.args.p.now own c.args.i.now c.args.found.now c.in-Method.method c.in-Method.field-1 c.len.result c.in-Some.info.now c.requires.row c.in-Method.is (sym c.in-Some.ensures) c.len.ensures))

@@ -1,5 +1,5 @@
 use Rattle.nr_model.specs.Scripts.{PlainInt, Push}
-use Rattle.std.proofs.Common.{length, subst, SFits, rules, w32}
+use Rattle.std.proofs.Common.{subst, SFits, rules, w32}
 use Rattle.std.proofs.lemmas.Int.{to_z-of_z}
 use Rattle.nr_step.specs.Windows.{Leads, window}
 use Rattle.nr_step.proofs.ConstantRules.{push_fits, pushed}

@@ -1,4 +1,4 @@
-use Rattle.std.proofs.Common.{length, refl}
+use Rattle.std.proofs.Common.{length}
 use Rattle.nr_model.specs.Throws.{onward}
 use Rattle.nr_model.specs.ValueRules.{test_int}
 use Rattle.nr_step.specs.Windows.{window}

@@ -1,13 +1,13 @@
-use Rattle.std.proofs.Common.{◌≡◌, ◌∙◌, ◌∷◌, refl, sym, ap, of_z, to_z, w32, SFits, rules}
+use Rattle.std.proofs.Common.{◌≡◌, ◌∙◌, ◌∷◌, ℕ, refl, sym, ap, of_z, to_z, w32, SFits, rules}
 use Rattle.std.proofs.lemmas.Int.{to_z-of_z}
 use Rattle.nr_model.specs.declared.value.Value.TheVariants.{Int}
 use Rattle.nr_model.specs.ArrayRules.{new_array}
-use Rattle.nr_model.specs.Scripts.{GoTo, GoesTo, Runs}
+use Rattle.nr_model.specs.Scripts.{GoTo, GoesTo}
 use Rattle.nr_heap.specs.Contents.{Contents, array_with, reached}
 use Rattle.nr_step.specs.Elements.{count_of}
 use Rattle.nr_step.specs.Windows.{top_first, window}
-use Rattle.nr_step.proofs.Going.{full_number, went_by}
-use Rattle.nr_step.proofs.NewArrays.{a_count, array_fills, array_leads, negative_thrown, no_count}
+use Rattle.nr_step.proofs.Going.{few_reached, full_number, went_by}
+use Rattle.nr_step.proofs.NewArrays.{a_count, array_fills, array_leads, array_unmade, negative_thrown, no_count}
 use Rattle.nr_step.specs.declared.flow.Flow.TheVariants as flows
 use Rattle.nr_model.specs.Throws.{onward}
 use Rattle.nr_step.proofs.instructions.new_arrays.make_array.Goals as goal
@@ -42,3 +42,15 @@ returns-in-Err-HeapFull-clause-went c = λ ls S is_rule.
     let is = c.pop_int-count.ensures.popped ∙ ap (λ z. Int z ∷ us) n in
     let f = full_number c.new_array.result (reached c.args.heap.now.objects (array_with c.args.elem c.in-Some.len)) c.in-Err-HeapFull.cells (cc (c.in-Err-HeapFull.is, c.in-Err-HeapFull.field-0-is)) c.new_array.ensures.full c.new_array.ensures.other in
     array_fills c.args.p.now S c.args.elem c.in-Some.len c.args.heap.now.objects c.new_array.new.self.objects ls vs us (record c.args.told.now { cells = c.in-Err-HeapFull.cells }) is is_rule (ap (λ (h : Contents). h.objects) c.in-Err-HeapFull.ensures.err) f.0 f.1
+
+pub returns-in-Err-NoMemory-clause-went : goal.returns-in-Err-NoMemory-clause-went
+returns-in-Err-NoMemory-clause-went c = λ ls S is_rule.
+    let fits : SFits w32 c.pop_int-count.result = search rules in
+    let same : count_of c.pop_int-count.result ≡ count_of (to_z w32 (of_z w32 c.pop_int-count.result)) = ap count_of (sym (to_z-of_z w32 c.pop_int-count.result fits)) in
+    let vs = top_first c.args.stack.now c.args.depth.now in
+    let us = top_first c.args.stack.now c.pop_int-count.new.depth in
+    let n = a_count c.pop_int-count.result c.in-Some.len (same ∙ sym c.in-Some.ensures) in
+    let is = c.pop_int-count.ensures.popped ∙ ap (λ z. Int z ∷ us) n in
+    let m : ℕ = reached c.args.heap.now.objects (array_with c.args.elem c.in-Some.len) in
+    let few = few_reached c.new_array.result m m (cc (c.in-Err-NoMemory.is, c.in-Err-NoMemory.field-0-is)) c.new_array.ensures.full in
+    array_unmade c.args.p.now S c.args.elem c.in-Some.len c.args.heap.now.objects c.new_array.new.self.objects ls vs us c.args.told.now is is_rule (ap (λ (h : Contents). h.objects) c.in-Err-NoMemory.ensures.err) few

@@ -1,4 +1,4 @@
-use Rattle.std.proofs.Common.{◌≡◌, ◌∙◌, ◌≤◌, ◌<◌, ℕ, List, length, Option, Err, IsTrue, ap, sym, subst, arith}
+use Rattle.std.proofs.Common.{◌∙◌, ◌≤◌, ℕ, List, length, Option, IsTrue, ap, sym, subst, arith}
 use Rattle.nr_linked.specs.declared.program.kind.Kind.{Kind}
 use Rattle.nr_linked.specs.declared.program.tables.MethodInfo.{MethodInfo}
 use Rattle.nr_linked.specs.declared.program.tables.ProgramTables.{ProgramTables}
@@ -8,14 +8,14 @@ use Rattle.nr_linked.specs.TypingFacts.{SiteFacts, is_makeable}
 use Rattle.nr_prog.specs.declared.body.instruction.Instr.{Instr}
 use Rattle.nr_model.specs.declared.value.Value.{Value}
 use Rattle.nr_model.specs.Heaps.{Heap}
-use Rattle.nr_model.specs.ObjectRules.{new_of}
+use Rattle.nr_model.specs.Outcomes.{max_cells}
 use Rattle.nr_model.specs.Throws.{make_object, zeros}
 use Rattle.nr_heap.specs.Contents.{Contents, HasMade, object_of, reached}
 use Rattle.nr_step.specs.Instructions.{CanFind, IsRowOf, doing, site_of}
 use Rattle.nr_step.specs.Windows.{top_first, window}
 use Rattle.nr_step.proofs.ConstantRules.{push_fits}
-use Rattle.nr_step.proofs.Going.{full_number}
-use Rattle.nr_step.proofs.Making.{ClassFound, class_found, fills_made, kind_found, made_leads, made_pushed, new_is, new_rule, same_class, same_kind}
+use Rattle.nr_step.proofs.Going.{few_reached, full_number}
+use Rattle.nr_step.proofs.Making.{ClassFound, class_found, fills_made, made_leads, made_pushed, none_made, new_rule, same_class, same_kind}
 use Rattle.nr_step.proofs.Rows.{go_on_by}
 use Rattle.nr_step.proofs.instructions.objects.new.Goals as goal
 
@@ -69,3 +69,12 @@ returns-in-Err-HeapFull-clause-went c = λ own ls.
     let n = full_number c.new_object.result (reached c.args.heap.now.objects (object_of c.args.p.now c.in-Object.class)) c.in-Err-HeapFull.cells (cc (c.in-Err-HeapFull.is, c.in-Err-HeapFull.field-0-is)) c.new_object.ensures.full c.new_object.ensures.other in
     fills_made c.args.p.now (doing c.args.p.now own c.args.i.now c.args.found.now) (class_kind f.number) (zeros c.args.p.now f.number) c.args.heap.now.objects c.new_object.new.self.objects ls (top_first c.args.stack.now c.args.depth.now) (record c.args.told.now { cells = c.in-Err-HeapFull.cells })
     (new_rule c.args.p.now own c.args.i.now c.args.found.now c.requires.row f) (ap (λ (h : Contents). h.objects) c.in-Err-HeapFull.ensures.err) (n.0 ∙ ap (λ n. reached c.args.heap.now.objects (object_of c.args.p.now n)) q) n.1
+
+pub returns-in-Err-NoMemory-clause-went : goal.returns-in-Err-NoMemory-clause-went
+returns-in-Err-NoMemory-clause-went c = λ own ls.
+    let f = of_class c.args.p.now c.args.i.now c.args.found.now c.args.heap.now.objects c.args.stack.now c.args.depth.now c.requires.row c.requires.site c.requires.can in
+    let q = same_class f.number c.in-Object.class c.in-Kind.kind (same_kind c.args.found.now c.in-Kind.kind (class_kind f.number) c.in-Kind.is f.is) c.in-Object.is in
+    let n : ℕ = reached c.args.heap.now.objects (object_of c.args.p.now c.in-Object.class) in
+    let few = few_reached c.new_object.result n n (cc (c.in-Err-NoMemory.is, c.in-Err-NoMemory.field-0-is)) c.new_object.ensures.full in
+    none_made c.args.p.now (doing c.args.p.now own c.args.i.now c.args.found.now) (class_kind f.number) (zeros c.args.p.now f.number) c.args.heap.now.objects c.new_object.new.self.objects ls (top_first c.args.stack.now c.args.depth.now) c.args.told.now
+    (new_rule c.args.p.now own c.args.i.now c.args.found.now c.requires.row f) (ap (λ (h : Contents). h.objects) c.in-Err-NoMemory.ensures.err) (subst (λ n. reached c.args.heap.now.objects (object_of c.args.p.now n) ≤ max_cells) q few)
