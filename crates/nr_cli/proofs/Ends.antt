@@ -1,9 +1,8 @@
--- The end of the program is of itself neither want of memory nor a fault of the folder.
-use Rattle.std.proofs.Common.{◌≡◌, ℕ, ◌-◌, Bool, true, false, cond, List, [], ◌∷◌, length, Option, Some, None, Result, Ok, Err, refl, ap, subst}
+-- What is due is of itself neither want of memory nor a fault of the folder.
+use Rattle.std.proofs.Common.{◌≡◌, ℕ, ◌-◌, Bool, true, false, cond, List, [], ◌∷◌, length, Option, Some, None, Result, Ok, Err, refl, sym, ap, subst}
 use Rattle.std.specs.Prelude.{◌&&◌, nat_le, is_some, slice_get}
 use Rattle.std.specs.Option.{option_map_or}
 use Rattle.nr_outside.specs.Folder.{ToldFile, class_paths, file_at}
-use Rattle.nr_prog.specs.declared.member.Code.{Code}
 use Rattle.nr_prog.specs.declared.body.loaded.Loaded.{Loaded}
 use Rattle.nr_instrs.specs.Checks.{then_on}
 use Rattle.nr_linked.specs.declared.program.tables.MethodInfo.{MethodInfo}
@@ -21,25 +20,27 @@ use Rattle.nr_cli.specs.Words.{Command, command_of}
 use Rattle.nr_cli.specs.Order.{in_byte_order}
 use Rattle.nr_cli.specs.Programs.{found_in, linked_of, or_link, prepared, verified_of}
 use Rattle.nr_cli.specs.Refusals.{spelled_verify, told_fault}
-use Rattle.nr_cli.specs.Thin.{code_of, ended, has_thin_code, main_end, path_of, place_of, run_code}
-use Rattle.nr_cli.specs.Run.{run_of}
-use Rattle.nr_cli.specs.Plan.{fault_end, as_end, file_class, with_len, loaded_at, and_then_all, all_loaded, judged, last_end, folder_end, loaded_end, of_command, end_of, are_listed, NothingFailed}
-use Rattle.nr_cli.proofs.Runnable.{instructions}
+use Rattle.nr_cli.specs.Dues.{Due, IsEndOf, MainRun, Settled, stop_of}
+use Rattle.nr_cli.specs.Plan.{fault_end, as_end, file_class, with_len, loaded_at, and_then_all, all_loaded, main_due, judged, last_end, folder_due, loaded_due, of_command, due_of, are_listed, NothingFailed}
 use Rattle.nr_linkrules.specs.declared.fault.LinkFault.TheVariants as links
-use Rattle.nr_cli.proofs.OwnFaults.{IsOwnFault, IsOwnFinding, IsOwnOption, links_own, main_own}
-use Rattle.nr_cli.proofs.Runs.{runs}
+use Rattle.nr_cli.proofs.OwnFaults.{IsOwnFault, IsOwnFinding, IsOwnOption, links_own, main_own as own_main}
 use Rattle.nr_cli.proofs.Listed.{sorted_paths}
-use Rattle.nr_cli.specs.declared.machine.Outcome.{Outcome}
-use Rattle.nr_cli.specs.declared.machine.Outcome.TheVariants.{Returned as RunReturned, BudgetSpent}
-use Rattle.nr_cli.specs.declared.ending.LoadFault.TheVariants.{FileTooLong, OutOfThinForm}
+use Rattle.nr_run.specs.declared.ran.Ran.{Ran}
+use Rattle.nr_run.specs.declared.ran.RunEnd.{RunEnd}
+use Rattle.nr_run.specs.declared.ran.RunEnd.TheVariants as runs
+use Rattle.nr_run.specs.Runs.{EndsAs, RunEnds}
+use Rattle.nr_cli.specs.declared.ending.LoadFault.TheVariants.{FileTooLong}
 use Rattle.nr_cli.specs.declared.ending.End.{End}
-use Rattle.nr_cli.specs.declared.ending.End.TheVariants.{Folder, Class, Link, Verify, Memory}
+use Rattle.nr_cli.specs.declared.ending.End.TheVariants.{Folder, Class, Link, Verify, Run, Memory}
+use Rattle.nr_cli.specs.declared.ending.Stop.{Stop}
+use Rattle.nr_cli.specs.declared.ending.Stop.TheVariants as stops
 
--- neither want of memory nor a fault of the folder
-abbrev IsOwn : End → Type 0
+-- neither want of memory, nor a fault of the folder, nor of a run
+abbrev pub IsOwn : End → Type 0
 IsOwn Memory = ⊥
 IsOwn Folder = ⊥
 IsOwn (Link fault) = IsOwnFault fault
+IsOwn (Run printed stop) = ⊥
 IsOwn end = Unit {0}
 
 -- a refusal, if it is one, is such an end
@@ -47,27 +48,18 @@ abbrev IsOwnErr : {A : Type 0} → Result A End → Type 0
 IsOwnErr (Ok x) = Unit {0}
 IsOwnErr (Err end) = IsOwn end
 
-by : (b : Bool) (x y : End) → (b ≡ true → IsOwn x) → IsOwn y → IsOwn (cond b x y)
-by true x y own other = own refl
+-- what is due, if it isn't a run, is such an end
+abbrev pub IsOwnDue : Due → Type 0
+IsOwnDue (Settled end) = IsOwn end
+IsOwnDue (MainRun P m c) = Unit {0}
+
+by : (b : Bool) (x y : Due) → IsOwnDue x → IsOwnDue y → IsOwnDue (cond b x y)
+by true x y own other = own
 by false x y own other = other
 
--- ---- code that is run
-
-outcome : (budget : ℕ) (o : Option Outcome) → is_some o ≡ true → IsOwn (ended budget o)
-outcome budget None e = absurd cc
-outcome budget (Some (RunReturned n)) e = tt
-outcome budget (Some BudgetSpent) e = tt
-
-code_run : (budget : ℕ) (code : Option Code) → has_thin_code code ≡ true → IsOwn (run_code budget code)
-code_run budget None e = absurd cc
-code_run budget (Some code) e = outcome budget (run_of code.bytes budget []) (runs code.max_stack code.bytes budget [] (instructions code e))
-
-main_run : (c : Command) (paths : List (List ℕ)) (r : Result (ProgramTables × ℕ) End) → IsOwnErr r → IsOwn (main_end c paths r)
-main_run c paths (Ok x) own =
-    by (has_thin_code (code_of x.0 x.1)) (run_code c.budget (code_of x.0 x.1))
-    (Class (path_of paths x.0 x.1) (OutOfThinForm (place_of x.0 x.1)))
-    (code_run c.budget (code_of x.0 x.1)) tt
-main_run c paths (Err end) own = own
+main_own : (c : Command) (r : Result (ProgramTables × ℕ) End) → IsOwnErr r → IsOwnDue (main_due c r)
+main_own c (Ok x) own = tt
+main_own c (Err end) own = own
 
 -- ---- the program
 
@@ -91,20 +83,20 @@ made : (classes : List Loaded) (name : List ℕ) → IsOwnErr (prepared classes 
 made classes name =
     then_own (linked_of classes) (λ P. then_on (found_in P name) (λ m. then_on (verified_of P) (λ Q. Ok (Q, m))))
     (linked (linked_program classes) (link_fault classes) (links_own classes))
-    (λ P. then_own (found_in P name) (λ m. then_on (verified_of P) (λ Q. Ok (Q, m))) (found (main_of P name) (main_own P name))
+    (λ P. then_own (found_in P name) (λ m. then_on (verified_of P) (λ Q. Ok (Q, m))) (found (main_of P name) (own_main P name))
     (λ m. then_own (verified_of P) (λ Q. Ok (Q, m)) (verified P (program_fault P)) (λ Q. tt)))
 
-by_classes : (c : Command) (paths : List (List ℕ)) (classes : List Loaded) → IsOwn (judged c paths classes)
-by_classes c paths classes = main_run c paths (prepared classes c.main) (made classes c.main)
+by_classes : (c : Command) (classes : List Loaded) → IsOwnDue (judged c classes)
+by_classes c classes = main_own c (prepared classes c.main) (made classes c.main)
 
 last : (c : Command) (path : Option (List ℕ)) → IsOwn (last_end c path)
 last c None = tt
 last c (Some path) = tt
 
-by_length : (c : Command) (paths : List (List ℕ)) (len : ℕ) (classes : List Loaded) → IsOwn (folder_end c paths len classes)
+by_length : (c : Command) (paths : List (List ℕ)) (len : ℕ) (classes : List Loaded) → IsOwnDue (folder_due c paths len classes)
 by_length c paths len classes =
-    by (nat_le len 67108864) (judged c paths classes) (last_end c (slice_get paths (length paths - 1)))
-    (λ e. by_classes c paths classes) (last c (slice_get paths (length paths - 1)))
+    by (nat_le len 67108864) (judged c classes) (Settled (last_end c (slice_get paths (length paths - 1))))
+    (by_classes c classes) (last c (slice_get paths (length paths - 1)))
 
 -- ---- class files that are read
 
@@ -146,26 +138,46 @@ all_read dir files (path ∷ paths) never e =
     let parts = both (is_some (file_at dir path files)) (are_listed dir files paths) e in
     then_all (loaded_at path (file_at dir path files)) (all_loaded dir files paths) (one path (file_at dir path files) never parts.0) (all_read dir files paths never parts.1)
 
-by_loaded : (c : Command) (paths : List (List ℕ)) (all : Result (List Loaded × ℕ) End) → IsOwnErr all → IsOwn (loaded_end c paths all)
+by_loaded : (c : Command) (paths : List (List ℕ)) (all : Result (List Loaded × ℕ) End) → IsOwnErr all → IsOwnDue (loaded_due c paths all)
 by_loaded c paths (Ok x) own = by_length c paths x.1 x.0
 by_loaded c paths (Err end) own = own
 
-by_command : (c : Option Command) (files : List ToldFile) → ((bytes : List ℕ) → loaded_of bytes ≡ Err loads.NoMemory → ⊥) → IsOwn (of_command c files)
+by_command : (c : Option Command) (files : List ToldFile) → ((bytes : List ℕ) → loaded_of bytes ≡ Err loads.NoMemory → ⊥) → IsOwnDue (of_command c files)
 by_command None files never = tt
 by_command (Some c) files never =
     let paths = in_byte_order (class_paths c.dir files) in
     by_loaded c paths (all_loaded c.dir files paths) (all_read c.dir files paths never (sorted_paths c.dir files))
 
-not_memory : (end : End) → IsOwn end → end ≡ Memory → ⊥
-not_memory end own e = subst (λ (z : End). IsOwn z) e own
+pub own_due : ((bytes : List ℕ) → loaded_of bytes ≡ Err loads.NoMemory → ⊥) → (words : List (List ℕ)) (files : List ToldFile) → IsOwnDue (due_of words files)
+own_due never words files = by_command (command_of words) files never
 
-not_link_memory : (end : End) → IsOwn end → end ≡ Link links.NoMemory → ⊥
-not_link_memory end own e = subst (λ (z : End). IsOwn z) e own
+-- ---- no end of what is due fails
 
-not_folder : (end : End) → IsOwn end → end ≡ Folder → ⊥
-not_folder end own e = subst (λ (z : End). IsOwn z) e own
+-- an end that isn't of a run and isn't an own one isn't due
+no_end : (end : End) → (IsOwn end → ⊥) → ((printed : List ℕ) (stop : Stop) → end ≡ Run printed stop → ⊥) → (due : Due) → IsOwnDue due → IsEndOf due end → ⊥
+no_end end fails never (Settled other) own e = fails (subst (λ (z : End). IsOwn z) (sym e) own)
+no_end end fails never (MainRun P m c) own e = never e.0.printed (stop_of P c.budget e.0.end) e.2
 
-pub nothing_failed : ((bytes : List ℕ) → loaded_of bytes ≡ Err loads.NoMemory → ⊥) → (words : List (List ℕ)) (files : List ToldFile) → NothingFailed (end_of words files)
+no_stop : (P : ProgramTables) (m : ℕ) (c : Command) (r : Ran) (e : RunEnd) → r.end ≡ e → RunEnds P m c.ints c.budget r → stops.Memory ≡ stop_of P c.budget e → ⊥
+no_stop P m c r (runs.Returned n) e ends f = cc
+no_stop P m c r (runs.Thrown k) e ends f = cc
+no_stop P m c r runs.Budget e ends f = cc
+no_stop P m c r (runs.Limit l) e ends f = cc
+no_stop P m c r runs.NoMemory e ends f = subst (EndsAs ends.fate ends.state) e ends.ends
+
+no_run : (printed : List ℕ) (due : Due) → IsOwnDue due → IsEndOf due (Run printed stops.Memory) → ⊥
+no_run printed (Settled other) own e = subst (λ (z : End). IsOwn z) (sym e) own
+no_run printed (MainRun P m c) own e = no_stop P m c e.0 e.0.end refl e.1 (same_stop printed e.0.printed stops.Memory (stop_of P c.budget e.0.end) e.2)
+  where
+    same_stop : (xs ys : List ℕ) (s t : Stop) → Run xs s ≡ Run ys t → s ≡ t
+    same_stop xs ys s t e = cc
+
+pub nothing_failed : ((bytes : List ℕ) → loaded_of bytes ≡ Err loads.NoMemory → ⊥) → (words : List (List ℕ)) (files : List ToldFile) → NothingFailed (due_of words files)
 nothing_failed never words files =
-    let own = by_command (command_of words) files never in
-    record { memory = not_memory _ own; link_memory = not_link_memory _ own; folder = not_folder _ own }
+    let own = own_due never words files in
+    record {
+      memory = no_end Memory (λ o. o) (λ printed stop e. cc) (due_of words files) own;
+      link_memory = no_end (Link links.NoMemory) (λ o. o) (λ printed stop e. cc) (due_of words files) own;
+      run_memory = λ printed. no_run printed (due_of words files) own;
+      folder = no_end Folder (λ o. o) (λ printed stop e. cc) (due_of words files) own;
+    }

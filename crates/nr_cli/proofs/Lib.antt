@@ -6,9 +6,9 @@ pub mod Listed
 pub mod Parts
 pub mod Dimensions
 pub mod Prepared
-pub mod Runnable
+pub mod Mains
+pub mod Comings
 pub mod Fields
-pub mod Runs
 pub mod OwnFaults
 pub mod Ends
 pub mod Readers
@@ -16,3 +16,4 @@ pub mod FileReading
 pub mod CodeReading
 pub mod Loadings
 pub mod Names
+pub mod Returns

@@ -1,6 +1,6 @@
 -- Class files that are read one after the other.
-use Rattle.std.proofs.Common.{◌≡◌, ◌⊎◌, ℕ, ◌+◌, ◌<◌, ◌≤◌, Bool, true, false, cond, ◌&&◌, List, [], ◌∷◌, ◌++◌, length, take, min, Result, Ok, Err, refl, sym, ap, subst, ◌∙◌, arith, inl, inr, leb, append_assoc, add_assoc, add-one, drop-cons, suc, map, drop, get_or, None}
-use Rattle.std.specs.Prelude.{slice_get, ◌-◌, is_some, is_ok}
+use Rattle.std.proofs.Common.{◌≡◌, ◌⊎◌, ℕ, ◌+◌, ◌<◌, ◌≤◌, Bool, true, false, cond, ◌&&◌, List, [], ◌∷◌, ◌++◌, length, min, Result, Ok, Err, refl, sym, ap, subst, ◌∙◌, arith, inl, inr, append_assoc, add_assoc, add-one, drop-cons, suc, map, drop, get_or, None}
+use Rattle.std.specs.Prelude.{is_some, is_ok}
 use Rattle.std.specs.String.{string_bytes}
 use Rattle.std.specs.declared.alloc.Global.{Global}
 use Rattle.std.specs.declared.string.String.{String}
@@ -10,7 +10,7 @@ use Rattle.nr_outside.specs.Folder.{ToldFile, file_at}
 use Rattle.nr_prog.specs.declared.body.loaded.Loaded.{Loaded}
 use Rattle.nr_cli.specs.Words.{Command}
 use Rattle.nr_cli.specs.Loading.{IsNext, IsRead}
-use Rattle.nr_cli.specs.Plan.{loaded_at, and_then_all, all_loaded, judged, last_end, folder_end, loaded_end, reads, are_listed}
+use Rattle.nr_cli.specs.Plan.{loaded_at, and_then_all, all_loaded, folder_due, loaded_due, reads, are_listed}
 use Rattle.nr_cli.specs.declared.ending.End.{End}
 use Rattle.nr_cli.specs.declared.ending.End.TheVariants.{Memory, Folder}
 
@@ -82,7 +82,7 @@ ends dir files total kept len w = record {
 
 -- too long together or not
 by_length : (c : Command) (paths : List (List ℕ)) (kept classes : List Loaded) (len sum : ℕ) → len ≡ min sum 67108865 → (len ≤ 67108864 → kept ≡ classes)
-    → folder_end c paths len kept ≡ folder_end c paths sum classes
+    → folder_due c paths len kept ≡ folder_due c paths sum classes
 by_length c paths kept classes len sum lens whole =
     elim (cases_lt 67108864 sum) [
       | inl lt ↦
@@ -91,12 +91,12 @@ by_length c paths kept classes len sum lens whole =
       | inr le ↦
           let same : len ≡ sum = omega (arith, lens) in
           let few : len ≤ 67108864 = omega (arith, lens) in
-          λ i. folder_end c paths (same i) (whole few i)
+          λ i. folder_due c paths (same i) (whole few i)
     ]
 
-pub read_is : (c : Command) (paths : List (List ℕ)) (total : All) (kept : List Loaded) (len : ℕ) → IsRead total kept len → folder_end c paths len kept ≡ loaded_end c paths total
+pub read_is : (c : Command) (paths : List (List ℕ)) (total : All) (kept : List Loaded) (len : ℕ) → IsRead total kept len → folder_due c paths len kept ≡ loaded_due c paths total
 read_is c paths total kept len l =
-    by_length c paths kept l.classes len l.sum l.lens l.whole ∙ sym (ap (loaded_end c paths) l.is)
+    by_length c paths kept l.classes len l.sum l.lens l.whole ∙ sym (ap (loaded_due c paths) l.is)
 
 -- ---- the same at a place of the paths, as the program holds them
 

@@ -1,16 +1,13 @@
 -- A link fault of the definition is never want of memory.
-use Rattle.std.proofs.Common.{◌≡◌, ℕ, suc, ◌+◌, Bool, true, false, List, [], ◌∷◌, ◌++◌, Option, Some, None, Result, Ok, Err, refl, subst}
-use Rattle.std.specs.Prelude.{codes, not, ◌&&◌, ◌||◌, ◌==◌, is_some, if◌then◌else◌}
+use Rattle.std.proofs.Common.{ℕ, ◌+◌, Bool, true, false, List, [], ◌∷◌, Option, Some, None, Result, Ok, Err}
+use Rattle.std.specs.Prelude.{codes, not, ◌&&◌, ◌||◌, ◌==◌, if◌then◌else◌}
 use Rattle.std.specs.Option.{option_and_then, option_map_or, option_or}
 use Rattle.nr_optable.specs.declared.table.Family.{Family}
 use Rattle.nr_optable.specs.declared.table.Family.TheVariants.{F8, F30, F31, F32, F33, F34, F37}
-use Rattle.nr_base.specs.declared.desc.types.Desc.{Desc}
 use Rattle.nr_base.specs.declared.desc.types.DescBase.{DescBase}
 use Rattle.nr_base.specs.declared.desc.types.DescBase.TheVariants as bases
-use Rattle.nr_prog.specs.declared.body.frame_map.FrameMap.{FrameMap}
 use Rattle.nr_prog.specs.declared.body.frame_map.MapType.{MapType}
 use Rattle.nr_prog.specs.declared.body.frame_map.MapType.TheVariants as map_types
-use Rattle.nr_prog.specs.declared.body.instruction.Instr.{Instr}
 use Rattle.nr_prog.specs.declared.body.loaded.Loaded.{Loaded}
 use Rattle.nr_prog.specs.declared.member.Handler.{Handler}
 use Rattle.nr_prog.specs.declared.parts.ClassParts.{ClassParts}

@@ -2,7 +2,7 @@
 use Rattle.std.proofs.Common.{◌≡◌, List, Option, None, Ok, sym, ap, ◌∙◌}
 use Rattle.std.specs.List.{All}
 use Rattle.std.specs.Option.{option_map_or}
-use Rattle.std.specs.Prelude.{Result, Err}
+use Rattle.std.specs.Prelude.{Err}
 use Rattle.nr_prog.specs.declared.body.loaded.Loaded.{Loaded}
 use Rattle.nr_linked.specs.declared.program.tables.ProgramTables.{ProgramTables}
 use Rattle.nr_links.specs.Links.{Links}
@@ -12,7 +12,6 @@ use Rattle.nr_linkrules.specs.LinkFaults.{link_fault}
 use Rattle.nr_linkrules.specs.Readable.{IsReadable}
 use Rattle.nr_linkrules.proofs.Linking.{no_other}
 use Rattle.nr_cli.specs.Programs.{linked_of}
-use Rattle.nr_cli.specs.declared.ending.End.{End}
 use Rattle.nr_cli.specs.declared.ending.End.TheVariants.{Link}
 
 pub linked_is : (classes : List Loaded) (P : ProgramTables) → All IsReadable classes → Links classes P → link_fault classes ≡ None → Ok P ≡ linked_of classes

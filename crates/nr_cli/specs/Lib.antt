@@ -1,10 +1,9 @@
 pub mod Words
 pub mod Order
-pub mod Thin
 pub mod Refusals
 pub mod Programs
-pub mod Run
 pub mod Spelling
 pub mod Ending
+pub mod Dues
 pub mod Plan
 pub mod Loading

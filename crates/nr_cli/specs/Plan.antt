@@ -1,7 +1,8 @@
 -- What the program does with its words over a folder's files. The project's own rules.
-use Rattle.std.specs.Prelude.{◌≢◌, ℕ, ◌+◌, ◌-◌, List, [], ◌∷◌, length, slice_get, Option, None, Some, Result, Ok, Err, cond, nat_le, Bool, true, ◌&&◌, is_some, is_ok}
+use Rattle.std.specs.Prelude.{ℕ, ◌+◌, ◌-◌, List, [], ◌∷◌, length, slice_get, Option, None, Some, Result, Ok, Err, cond, nat_le, Bool, true, ◌&&◌, is_some, is_ok}
 use Rattle.nr_outside.specs.Folder.{ToldFile, class_paths, file_at}
 use Rattle.nr_prog.specs.declared.body.loaded.Loaded.{Loaded}
+use Rattle.nr_linked.specs.declared.program.tables.ProgramTables.{ProgramTables}
 use Rattle.nr_code.specs.Decoding.{loaded_of}
 use Rattle.nr_code.specs.declared.fault.LoadFault.{LoadFault}
 use Rattle.nr_code.specs.declared.fault.LoadFault.TheVariants as loads
@@ -9,10 +10,11 @@ use Rattle.nr_linkrules.specs.declared.fault.LinkFault.TheVariants as links
 use Rattle.nr_cli.specs.Words.{Command, command_of}
 use Rattle.nr_cli.specs.Order.{in_byte_order}
 use Rattle.nr_cli.specs.Programs.{prepared}
-use Rattle.nr_cli.specs.Thin.{main_end}
+use Rattle.nr_cli.specs.Dues.{Due, IsEndOf, MainRun, Settled}
 use Rattle.nr_cli.specs.declared.ending.LoadFault.TheVariants.{Read, Code as CodeRefused, FileTooLong, FolderTooLong}
 use Rattle.nr_cli.specs.declared.ending.End.{End}
-use Rattle.nr_cli.specs.declared.ending.End.TheVariants.{Words, Folder, Class, Link, Memory}
+use Rattle.nr_cli.specs.declared.ending.End.TheVariants.{Words, Folder, Class, Link, Run, Memory}
+use Rattle.nr_cli.specs.declared.ending.Stop.TheVariants as stops
 
 -- a file that can't be read, or whose code is refused
 abbrev pub fault_end : List ℕ → LoadFault → End
@@ -64,41 +66,46 @@ calls_of (Some c) files = 1 + reads c.dir files (in_byte_order (class_paths c.di
 
 -- ---- what is done with them
 
+abbrev pub main_due : Command → Result (ProgramTables × ℕ) End → Due
+main_due c (Ok x) = MainRun x.0 x.1 c
+main_due c (Err end) = Settled end
+
 -- they are linked and verified, the class of the command is looked up, and its `main` is run
-abbrev pub judged : Command → List (List ℕ) → List Loaded → End
-judged c paths classes = main_end c paths (prepared classes c.main)
+abbrev pub judged : Command → List Loaded → Due
+judged c classes = main_due c (prepared classes c.main)
 
 abbrev pub last_end : Command → Option (List ℕ) → End
 last_end c None = Link (links.NoClass c.main)
 last_end c (Some path) = Class path FolderTooLong
 
 -- First the length of all files together is looked at, of which the last path tells.
-abbrev pub folder_end : Command → List (List ℕ) → ℕ → List Loaded → End
-folder_end c paths len classes = cond (nat_le len 67108864) (judged c paths classes) (last_end c (slice_get paths (length paths - 1)))
+abbrev pub folder_due : Command → List (List ℕ) → ℕ → List Loaded → Due
+folder_due c paths len classes = cond (nat_le len 67108864) (judged c classes) (Settled (last_end c (slice_get paths (length paths - 1))))
 
-abbrev pub loaded_end : Command → List (List ℕ) → Result (List Loaded × ℕ) End → End
-loaded_end c paths (Ok x) = folder_end c paths x.1 x.0
-loaded_end c paths (Err end) = end
+abbrev pub loaded_due : Command → List (List ℕ) → Result (List Loaded × ℕ) End → Due
+loaded_due c paths (Ok x) = folder_due c paths x.1 x.0
+loaded_due c paths (Err end) = Settled end
 
 -- the files at these paths, in order
-abbrev pub of_paths : Command → List ToldFile → List (List ℕ) → End
-of_paths c files paths = loaded_end c paths (all_loaded c.dir files paths)
+abbrev pub of_paths : Command → List ToldFile → List (List ℕ) → Due
+of_paths c files paths = loaded_due c paths (all_loaded c.dir files paths)
 
-abbrev pub of_command : Option Command → List ToldFile → End
-of_command None files = Words
+abbrev pub of_command : Option Command → List ToldFile → Due
+of_command None files = Settled Words
 of_command (Some c) files = of_paths c files (in_byte_order (class_paths c.dir files))
 
--- the end of the program that is given these words over these files
-abbrev pub end_of : List (List ℕ) → List ToldFile → End
-end_of words files = of_command (command_of words) files
+-- what is due where the program is given these words over these files
+abbrev pub due_of : List (List ℕ) → List ToldFile → Due
+due_of words files = of_command (command_of words) files
 
 -- each of the paths has a file
 abbrev pub are_listed : List ℕ → List ToldFile → List (List ℕ) → Bool
 are_listed dir files [] = true
 are_listed dir files (path ∷ paths) = is_some (file_at dir path files) && are_listed dir files paths
 
--- nothing failed: neither memory nor the folder
-pub record NothingFailed (end : End) : Type 0 where
-  pub memory : end ≢ Memory
-  pub link_memory : end ≢ Link links.NoMemory
-  pub folder : end ≢ Folder
+-- nothing failed, neither memory nor the folder: no end of what is due tells of that
+pub record NothingFailed (due : Due) : Type 0 where
+  pub memory : IsEndOf due Memory → ⊥
+  pub link_memory : IsEndOf due (Link links.NoMemory) → ⊥
+  pub run_memory : (printed : List ℕ) → IsEndOf due (Run printed stops.Memory) → ⊥
+  pub folder : IsEndOf due Folder → ⊥

@@ -7,8 +7,10 @@ use Rattle.nr_classread.specs.declared.fault.ClassFault.{ClassFault}
 use Rattle.nr_classread.specs.declared.fault.ClassFault.TheVariants as faults
 use Rattle.nr_code.specs.CodeFault.{CodeFault}
 use Rattle.nr_code.specs.CodeFault.TheVariants as code_faults
+use Rattle.nr_run.specs.declared.ran.Limit.{Limit}
+use Rattle.nr_run.specs.declared.ran.Limit.TheVariants as limits
 use Rattle.nr_cli.specs.declared.ending.LoadFault.{LoadFault}
-use Rattle.nr_cli.specs.declared.ending.LoadFault.TheVariants.{Read, Code, OutOfThinForm, FileTooLong, FolderTooLong}
+use Rattle.nr_cli.specs.declared.ending.LoadFault.TheVariants.{Read, Code, FileTooLong, FolderTooLong}
 
 -- a capital hexadecimal digit
 abbrev pub hex_digit : ℕ → ℕ
@@ -57,6 +59,11 @@ spelled_code code_faults.NoMemory = codes "NoMemory"
 abbrev pub spelled_fault : LoadFault → List ℕ
 spelled_fault (Read fault) = spelled_class fault
 spelled_fault (Code method fault) = codes "Code " ++ decimal method ++ codes " " ++ spelled_code fault
-spelled_fault (OutOfThinForm at) = codes "OutOfThinForm " ++ decimal at
 spelled_fault FileTooLong = codes "FileTooLong"
 spelled_fault FolderTooLong = codes "FolderTooLong"
+
+-- a limit of the machine
+abbrev pub spelled_limit : Limit → List ℕ
+spelled_limit limits.Cells = codes "cells"
+spelled_limit limits.Depth = codes "depth"
+spelled_limit limits.Output = codes "output"

@@ -5,7 +5,7 @@ use Rattle.std.specs.List.{list_all, list_any}
 use Rattle.std.specs.Str.{bytes_eq}
 use Rattle.std.specs.Str.Parse.{digits_value}
 use Rattle.nr_prog.specs.LegalTests.{is_class_text}
-use Rattle.nr_cli.specs.declared.words.RunCommand.{RunCommand}
+use Rattle.nr_cli.specs.declared.command.RunCommand.{RunCommand}
 
 -- decimal digits with no zero in front, but for the digit 0 alone
 abbrev pub is_number : List ℕ → Bool

@@ -1,15 +1,15 @@
 //! The command line of the program: what its words mean, what it does and what it prints.
 #![tactic(auto)]
 
+mod command;
 mod ending;
 mod law;
 mod load;
-mod machine;
+mod main_run;
 mod plan;
 mod program;
 mod report;
 mod spelling;
-mod thin;
 mod top;
 mod words;
 

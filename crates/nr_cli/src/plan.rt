@@ -1,80 +1,35 @@
 //! Does what the words say, as far as the folder goes.
-ghost use Rattle.std.specs.Prelude.{◌≡◌, ◌⊎◌, ◌≤◌, ◌-◌, All, length, slice_get, true, Some, None, option_copied, map};
+ghost use Rattle.std.specs.Prelude.{◌≡◌, ◌⊎◌, ◌≤◌, ◌-◌, All, length, slice_get, true, Some, None, map};
 ghost use Rattle.std.specs.String.{string_bytes};
 ghost use Rattle.nr_outside.specs.Calls.{CallsAtMost};
 ghost use Rattle.nr_outside.specs.Causes.{Rose};
 ghost use Rattle.nr_linkrules.specs.declared.fault.LinkFault.TheVariants as links;
 ghost use Rattle.nr_linkrules.specs.Readable.{IsReadable};
-ghost use Rattle.nr_cli.specs.Thin.{has_thin_code, run_code, run_end};
 ghost use Rattle.nr_cli.specs.Words.{told, command_of};
-ghost use Rattle.nr_cli.specs.Plan.{judged, last_end, folder_end, of_paths, of_command, end_of, reads, calls_of, are_listed};
+ghost use Rattle.nr_cli.specs.Dues.{Comes};
+ghost use Rattle.nr_cli.specs.Plan.{judged, last_end, folder_due, of_paths, of_command, due_of, reads, calls_of, are_listed};
 
+use crate::command::RunCommand;
 use crate::ending::{End, LoadFault};
 use crate::load::{ReadClasses, is_folder_too_long, load_all, refused, sorted_names};
-use crate::machine::{Outcome, run};
+use crate::main_run::end_of_main;
 use crate::program::prepare;
-use crate::thin::{code_of, has_code, path_of, place_of};
-use crate::words::{RunCommand, read_words};
+use crate::words::read_words;
 use nr_base::Items;
-use nr_linked::{MethodId, Program};
 use nr_linkrules::LinkFault;
 use nr_outside::{Fault, Folder};
-use nr_prog::{Code, Loaded};
+use nr_prog::Loaded;
 use std::alloc::Global;
 
-// Runs the code of `main`.
-fn end_of_code(alloc: Global, budget: u32, code: Option<&Code>) -> End
-    requires { has_thin_code (option_copied code) ≡ true }
-    ensures end { (result ≡ End.Memory) ⊎ (result ≡ run_code budget (option_copied code.entry)) }
-    ensures words { result ≡ End.Words → ⊥ }
-    ensures folder { result ≡ End.Folder → ⊥ }
-{
-    let Some(code) = code else {
-        return End::Memory;
-    };
-    match run(alloc, code.max_stack, code.bytes.as_slice(), budget) {
-        Ok(Outcome::Returned(value)) => End::Returned(value),
-        Ok(Outcome::BudgetSpent) => End::Budget(budget),
-        Err(_) => End::Memory,
-    }
-}
-
-// Runs `main` of a program, where its code is of the form.
-fn end_of_main(
-    alloc: Global,
-    command: &RunCommand<'_>,
-    paths: &[String],
-    program: &Program,
-    main: MethodId,
-) -> End
-    ensures end { (result ≡ End.Memory)
-        ⊎ (result ≡ run_end (told command.now) (map string_bytes paths.now) program.now main) }
-    ensures words { result ≡ End.Words → ⊥ }
-    ensures folder { result ≡ End.Folder → ⊥ }
-{
-    let code = code_of(program, main);
-    if has_code(code) {
-        return end_of_code(alloc, command.budget, code);
-    }
-    let fault = LoadFault::OutOfThinForm(place_of(program, main));
-    refused(alloc, path_of(paths, program, main), fault)
-}
-
-// The end over the classes at these paths.
-fn end_of_classes(
-    alloc: Global,
-    command: &RunCommand<'_>,
-    paths: &[String],
-    classes: Items<Loaded>,
-) -> End
+// The end over these classes.
+fn end_of_classes(alloc: Global, command: &RunCommand<'_>, classes: Items<Loaded>) -> End
     requires { All IsReadable classes }
-    ensures end { (result ≡ End.Memory)
-        ⊎ (result ≡ judged (told command.now) (map string_bytes paths.now) classes) }
+    ensures end { Comes (judged (told command.now) classes) result }
     ensures words { result ≡ End.Words → ⊥ }
     ensures folder { result ≡ End.Folder → ⊥ }
 {
     match prepare(alloc, classes, &command.main) {
-        Ok((verified, main)) => end_of_main(alloc, command, paths, verified.program(), main),
+        Ok((program, main)) => end_of_main(alloc, command, &program, main),
         Err(end) => end,
     }
 }
@@ -106,15 +61,14 @@ fn end_of_long(alloc: Global, command: &RunCommand<'_>, paths: &[String]) -> End
 // The end over class files that were read.
 fn end_of_read(alloc: Global, command: &RunCommand<'_>, paths: &[String], read: ReadClasses) -> End
     requires { read.len ≤ 67108864 → All IsReadable read.classes }
-    ensures end { (result ≡ End.Memory)
-        ⊎ (result ≡ folder_end (told command.now) (map string_bytes paths.now) read.len read.classes) }
+    ensures end { Comes (folder_due (told command.now) (map string_bytes paths.now) read.len read.classes) result }
     ensures words { result ≡ End.Words → ⊥ }
     ensures folder { result ≡ End.Folder → ⊥ }
 {
     if is_folder_too_long(read.len) {
         return end_of_long(alloc, command, paths);
     }
-    end_of_classes(alloc, command, paths, read.classes)
+    end_of_classes(alloc, command, read.classes)
 }
 
 // The end over the class files at these paths.
@@ -125,8 +79,8 @@ fn end_of_paths<F: Folder>(
     paths: &[String],
 ) -> End
     ensures files { F.Tells → F.files folder.new ≡ F.files folder.old }
-    ensures end { F.Tells → (result ≡ End.Memory) ⊎ (result ≡ End.Folder)
-        ⊎ (result ≡ of_paths (told command.now) (F.files folder.old) (map string_bytes paths.now)) }
+    ensures end { F.Tells → (result ≡ End.Folder)
+        ⊎ Comes (of_paths (told command.now) (F.files folder.old) (map string_bytes paths.now)) result }
     ensures words { result ≡ End.Words → ⊥ }
     ensures calls { F.Tells
         → CallsAtMost (reads command.now.dir.now (F.files folder.old) (map string_bytes paths.now))
@@ -145,8 +99,8 @@ fn end_of_paths<F: Folder>(
 // The end over the class files of the command's folder.
 fn end_of_command<F: Folder>(alloc: Global, command: &RunCommand<'_>, folder: &mut F) -> End
     ensures files { F.Tells → F.files folder.new ≡ F.files folder.old }
-    ensures end { F.Tells → (result ≡ End.Memory) ⊎ (result ≡ End.Folder)
-        ⊎ (result ≡ of_command (Some (told command.now)) (F.files folder.old)) }
+    ensures end { F.Tells → (result ≡ End.Folder)
+        ⊎ Comes (of_command (Some (told command.now)) (F.files folder.old)) result }
     ensures words { result ≡ End.Words → ⊥ }
     ensures calls { F.Tells → CallsAtMost (calls_of (Some (told command.now)) (F.files folder.old))
         (F.calls folder.old) (F.calls folder.new) }
@@ -162,8 +116,8 @@ fn end_of_command<F: Folder>(alloc: Global, command: &RunCommand<'_>, folder: &m
 /// The end of the program that is given these words over this folder.
 pub fn plan<F: Folder>(alloc: Global, words: &[&str], folder: &mut F) -> End
     ensures files { F.Tells → F.files folder.new ≡ F.files folder.old }
-    ensures end { F.Tells → (result ≡ End.Memory) ⊎ (result ≡ End.Folder)
-        ⊎ (result ≡ end_of (map (λ w. w.now) words.now) (F.files folder.old)) }
+    ensures end { F.Tells → (result ≡ End.Folder)
+        ⊎ Comes (due_of (map (λ w. w.now) words.now) (F.files folder.old)) result }
     ensures calls { F.Tells
         → CallsAtMost (calls_of (command_of (map (λ w. w.now) words.now)) (F.files folder.old))
         (F.calls folder.old) (F.calls folder.new) }

@@ -1,6 +1,7 @@
 //! A program of class files, linked and verified, with the method that is to run.
-ghost use Rattle.std.specs.Prelude.{◌≡◌, ◌⊎◌, All, Err};
+ghost use Rattle.std.specs.Prelude.{◌≡◌, ◌⊎◌, All, Err, IfOk};
 ghost use Rattle.nr_linkrules.specs.Readable.{IsReadable};
+ghost use Rattle.nr_run.specs.Runs.{IsMain};
 ghost use Rattle.nr_cli.specs.Programs.{found_in, linked_of, prepared, verified_of};
 ghost use Rattle.nr_cli.specs.Refusals.{spelled_verify};
 
@@ -30,6 +31,7 @@ fn linked(alloc: Global, classes: Items<Loaded>) -> Result<Program, End>
 
 fn found(program: &Program, main: &Name) -> Result<MethodId, End>
     ensures main { (result ≡ Err End.Memory) ⊎ (result ≡ found_in program.now main.now) }
+    ensures is_main { IfOk result (λ m. IsMain program.now m) }
     ensures words { result ≡ Err End.Words → ⊥ }
     ensures folder { result ≡ Err End.Folder → ⊥ }
 {
@@ -54,6 +56,7 @@ fn refused(alloc: Global, program: &Program, fault: &VerifyFault) -> End
 
 fn verified(alloc: Global, program: Program) -> Result<Verified, End>
     ensures program { (result ≡ Err End.Memory) ⊎ (result ≡ verified_of program) }
+    ensures same { IfOk result (λ v. v ≡ program) }
     ensures words { result ≡ Err End.Words → ⊥ }
     ensures folder { result ≡ Err End.Folder → ⊥ }
 {
@@ -74,6 +77,7 @@ pub fn prepare(
 ) -> Result<(Verified, MethodId), End>
     requires { All IsReadable classes }
     ensures program { (result ≡ Err End.Memory) ⊎ (result ≡ prepared classes main.now) }
+    ensures main { IfOk result (λ x. IsMain x.0 x.1) }
     ensures words { result ≡ Err End.Words → ⊥ }
     ensures folder { result ≡ Err End.Folder → ⊥ }
 {

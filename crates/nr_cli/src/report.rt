@@ -1,9 +1,9 @@
 //! Writes what the program has to say at its end.
-ghost use Rattle.std.specs.Prelude.{◌≡◌, ◌⊎◌, ◌≤◌, ◌++◌, codes, OnOk};
-ghost use Rattle.nr_outside.specs.Calls.{CallsAtMost};
+ghost use Rattle.std.specs.Prelude.{◌≡◌, ◌⊎◌, ◌≤◌, ◌<◌, ◌+◌, ◌++◌, [], codes, OnOk};
+ghost use Rattle.nr_outside.specs.Calls.{CallsAtMost, next_count};
 ghost use Rattle.nr_outside.specs.Causes.{HasCause, Rose};
 ghost use Rattle.nr_outside.specs.Bytes.{AddsPart};
-ghost use Rattle.nr_cli.specs.Ending.{SaysPart, line, status_of, out_of, err_of};
+ghost use Rattle.nr_cli.specs.Ending.{SaysPart, calls_for, line, printed_of, result_of, status_of, out_of, err_of};
 
 use crate::ending::End;
 use crate::spelling::spell;
@@ -18,13 +18,26 @@ const NO_MEMORY: u8 = 12;
 fn put<S: Sink>(sink: &mut S, text: &[u8]) -> Result<(), Fault>
     ensures ok { S.Tells → OnOk result (S.bytes sink.new ≡ S.bytes sink.old ++ text.now) }
     ensures part { S.Tells → AddsPart (S.bytes sink.old) (S.bytes sink.new) text.now }
-    ensures once { S.Tells → CallsAtMost 1 (S.writes sink.old) (S.writes sink.new) }
+    ensures nothing { text.now ≡ [] → result ≡ Ok tt }
+    ensures no_call { S.Tells → text.now ≡ [] → S.writes sink.new ≡ S.writes sink.old }
+    ensures call { S.Tells → (text.now ≡ [] → ⊥) → S.writes sink.new ≡ next_count (S.writes sink.old) }
     ensures cause { HasCause (S.faults sink.old) (S.faults sink.new) result }
 {
     if text.is_empty() {
         return Ok(());
     }
     sink.write(text)
+}
+
+// Writes two texts, the second where the first was written.
+fn put_two<S: Sink>(sink: &mut S, first: &[u8], second: &[u8]) -> Result<(), Fault>
+    ensures ok { S.Tells → OnOk result (S.bytes sink.new ≡ S.bytes sink.old ++ (first.now ++ second.now)) }
+    ensures part { S.Tells → AddsPart (S.bytes sink.old) (S.bytes sink.new) (first.now ++ second.now) }
+    ensures calls { S.Tells → CallsAtMost (calls_for first.now + calls_for second.now) (S.writes sink.old) (S.writes sink.new) }
+    ensures cause { HasCause (S.faults sink.old) (S.faults sink.new) result }
+{
+    put(sink, first)?;
+    put(sink, second)
 }
 
 // Writes the text; the status is this one, unless the sink refuses.
@@ -35,8 +48,11 @@ fn put_last<S: Sink>(sink: &mut S, text: &[u8], status: u8) -> u8
     ensures whole { S.Tells → (result ≡ 11 → ⊥) → (result ≡ 12 → ⊥)
         → S.bytes sink.new ≡ S.bytes sink.old ++ text.now }
     ensures part { S.Tells → AddsPart (S.bytes sink.old) (S.bytes sink.new) text.now }
-    ensures once { S.Tells → CallsAtMost 1 (S.writes sink.old) (S.writes sink.new) }
+    ensures nothing { text.now ≡ [] → result ≡ status }
+    ensures no_call { S.Tells → text.now ≡ [] → S.writes sink.new ≡ S.writes sink.old }
+    ensures call { S.Tells → (text.now ≡ [] → ⊥) → S.writes sink.new ≡ next_count (S.writes sink.old) }
     ensures faults { S.faults sink.old ≤ S.faults sink.new }
+    ensures failed { S.faults sink.old < S.faults sink.new → result ≡ 11 }
     ensures sink { (status ≡ 11 → ⊥) → result ≡ 11 → Rose (S.faults sink.old) (S.faults sink.new) }
     ensures memory { status ≡ 12 → result ≡ 11 → Rose (S.faults sink.old) (S.faults sink.new) }
 {
@@ -47,10 +63,11 @@ fn put_last<S: Sink>(sink: &mut S, text: &[u8], status: u8) -> u8
     }
 }
 
-// Writes both texts.
-fn put_both<O: Sink, E: Sink>(
+// Writes what was printed and its result, and then the line.
+fn put_all<O: Sink, E: Sink>(
     status: u8,
-    out_text: &[u8],
+    printed: &[u8],
+    result_line: &[u8],
     err_text: &[u8],
     out: &mut O,
     err: &mut E,
@@ -58,10 +75,12 @@ fn put_both<O: Sink, E: Sink>(
     requires { status ≡ 11 → ⊥ }
     ensures status { (result ≡ status) ⊎ (result ≡ 11) ⊎ (result ≡ 12) }
     ensures out { O.Tells → (result ≡ 11 → ⊥) → (result ≡ 12 → ⊥)
-        → O.bytes out.new ≡ O.bytes out.old ++ out_text.now }
-    ensures part { O.Tells → AddsPart (O.bytes out.old) (O.bytes out.new) out_text.now }
-    ensures out_once { O.Tells → CallsAtMost 1 (O.writes out.old) (O.writes out.new) }
-    ensures err_once { E.Tells → CallsAtMost 1 (E.writes err.old) (E.writes err.new) }
+        → O.bytes out.new ≡ O.bytes out.old ++ (printed.now ++ result_line.now) }
+    ensures part { O.Tells → AddsPart (O.bytes out.old) (O.bytes out.new) (printed.now ++ result_line.now) }
+    ensures out_calls { O.Tells → CallsAtMost (calls_for printed.now + calls_for result_line.now) (O.writes out.old) (O.writes out.new) }
+    ensures quiet { E.Tells → err_text.now ≡ [] → (result ≡ 11 → ⊥) → (result ≡ 12 → ⊥) → E.writes err.new ≡ E.writes err.old }
+    ensures said_once { E.Tells → (err_text.now ≡ [] → ⊥) → E.writes err.new ≡ next_count (E.writes err.old) }
+    ensures told_once { E.Tells → (result ≡ status → ⊥) → E.writes err.new ≡ next_count (E.writes err.old) }
     ensures err { E.Tells → (result ≡ 11 → ⊥) → (result ≡ 12 → ⊥)
         → E.bytes err.new ≡ E.bytes err.old ++ err_text.now }
     ensures line { E.Tells → result ≡ 11 → (Rose (E.faults err.old) (E.faults err.new) → ⊥)
@@ -70,11 +89,23 @@ fn put_both<O: Sink, E: Sink>(
         (Rose (O.faults out.old) (O.faults out.new)) }
     ensures sink { result ≡ 11
         → Rose (O.faults out.old) (O.faults out.new) ⊎ Rose (E.faults err.old) (E.faults err.new) }
+    ensures failed { (O.faults out.old < O.faults out.new) ⊎ (E.faults err.old < E.faults err.new)
+        → (result ≡ 11) ⊎ (result ≡ 12) }
 {
-    match put(out, out_text) {
+    match put_two(out, printed, result_line) {
         Ok(()) => put_last(err, err_text, status),
         Err(Fault::Failed) => put_last(err, b"nrmi: sink\n", SINK_FAILED),
         Err(Fault::NoMemory) => put_last(err, b"nrmi: memory\n", NO_MEMORY),
+    }
+}
+
+// What a run printed before this end.
+fn printed(end: &End) -> &[u8]
+    ensures { result.now ≡ printed_of end.now }
+{
+    match end {
+        End::Run(printed, _) => printed.as_slice(),
+        _ => b"",
     }
 }
 
@@ -84,8 +115,9 @@ pub fn end_with<O: Sink, E: Sink>(alloc: Global, end: &End, out: &mut O, err: &m
     ensures out { O.Tells → (result ≡ 11 → ⊥) → (result ≡ 12 → ⊥)
         → O.bytes out.new ≡ O.bytes out.old ++ out_of end.now }
     ensures part { O.Tells → AddsPart (O.bytes out.old) (O.bytes out.new) (out_of end.now) }
-    ensures out_once { O.Tells → CallsAtMost 1 (O.writes out.old) (O.writes out.new) }
-    ensures err_once { E.Tells → CallsAtMost 1 (E.writes err.old) (E.writes err.new) }
+    ensures out_calls { O.Tells → CallsAtMost (calls_for (printed_of end.now) + calls_for (result_of end.now)) (O.writes out.old) (O.writes out.new) }
+    ensures quiet { E.Tells → result ≡ 0 → E.writes err.new ≡ E.writes err.old }
+    ensures told { E.Tells → (result ≡ 0 → ⊥) → E.writes err.new ≡ next_count (E.writes err.old) }
     ensures err { E.Tells → (result ≡ 11 → ⊥) → (result ≡ 12 → ⊥)
         → E.bytes err.new ≡ E.bytes err.old ++ err_of end.now }
     ensures line { E.Tells → result ≡ 11 → (Rose (E.faults err.old) (E.faults err.new) → ⊥)
@@ -94,9 +126,18 @@ pub fn end_with<O: Sink, E: Sink>(alloc: Global, end: &End, out: &mut O, err: &m
         (Rose (O.faults out.old) (O.faults out.new)) }
     ensures sink { result ≡ 11
         → Rose (O.faults out.old) (O.faults out.new) ⊎ Rose (E.faults err.old) (E.faults err.new) }
+    ensures failed { (O.faults out.old < O.faults out.new) ⊎ (E.faults err.old < E.faults err.new)
+        → (result ≡ 11) ⊎ (result ≡ 12) }
 {
     match spell(alloc, end) {
-        Ok(spelled) => put_both(spelled.status, &spelled.out, &spelled.err, out, err),
-        Err(_) => put_both(NO_MEMORY, b"", b"nrmi: memory\n", out, err),
+        Ok(spelled) => put_all(
+            spelled.status,
+            printed(end),
+            &spelled.result,
+            &spelled.err,
+            out,
+            err,
+        ),
+        Err(_) => put_all(NO_MEMORY, printed(end), b"", b"nrmi: memory\n", out, err),
     }
 }

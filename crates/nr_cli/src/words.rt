@@ -1,5 +1,5 @@
 //! The words of the command line.
-ghost use Rattle.std.specs.Prelude.{◌≡◌, ◌^◌, ◌<◌, ◌≤◌, ◌-◌, length, vec_len, cond, None, Some, IfOk, MatchOption, map, true, []};
+ghost use Rattle.std.specs.Prelude.{◌≡◌, ◌^◌, ◌<◌, ◌≤◌, ◌-◌, length, vec_len, cond, None, Some, IfOk, IfSome, MatchOption, map, true, []};
 ghost use Rattle.std.specs.Option.{option_map};
 ghost use Rattle.std.specs.Char.{is_ascii_digit};
 ghost use Rattle.std.specs.List.{list_all};
@@ -8,17 +8,9 @@ ghost use Rattle.nr_base.specs.Names.{is_name};
 ghost use Rattle.nr_prog.specs.LegalTests.{is_class_text};
 ghost use Rattle.nr_cli.specs.Words.{is_number, number_within, budget_of, int_of, ints_onto, ints_of, fits_word, slashed, is_name_byte, class_name_of, command_of, told};
 
+use crate::command::RunCommand;
 use nr_base::{Items, Name, NameFault};
 use std::alloc::{AllocError, Global};
-
-/// The command `run`: which class of which folder, for how many steps at most, on which numbers.
-#[derive(Drop)]
-pub struct RunCommand<'a> {
-    pub dir: &'a str,
-    pub main: Name,
-    pub budget: u32,
-    pub ints: Items<i32>,
-}
 
 fn all_digits(word: &[u8]) -> bool
     ensures { result ≡ list_all is_ascii_digit word.now }
@@ -84,7 +76,8 @@ fn read_int(word: &str) -> Option<i32>
 
 // The numbers of `main`'s array, of at most 1,000 words.
 fn read_ints(alloc: Global, words: &[&str]) -> Result<Option<Items<i32>>, AllocError>
-    ensures { IfOk result (λ o. o ≡ ints_of (map (λ w. w.now) words.now)) }
+    ensures ints { IfOk result (λ o. o ≡ ints_of (map (λ w. w.now) words.now)) }
+    ensures few { IfOk result (λ o. IfSome o (λ ints. length ints ≤ 1000)) }
 {
     if words.len() > 1000 {
         return Ok(None);

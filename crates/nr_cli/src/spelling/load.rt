@@ -104,9 +104,6 @@ pub fn put_load(alloc: Global, text: &mut Put, fault: LoadFault) -> Result<(), A
     match fault {
         LoadFault::Read(fault) => put_class(alloc, text, fault),
         LoadFault::Code(method, fault) => put_method(alloc, text, method, fault),
-        LoadFault::OutOfThinForm(at) => {
-            text.bytes(format!(in alloc; "OutOfThinForm {at}")?.as_bytes())
-        }
         LoadFault::FileTooLong => text.bytes(b"FileTooLong"),
         LoadFault::FolderTooLong => text.bytes(b"FolderTooLong"),
     }

@@ -68,7 +68,8 @@ A 33 java/lang/Object m|9|main|([I)I|04.ac & B 33 java/lang/Object m|9|f|()I|b1 
 A 33 java/lang/Object m|9|f|(JJJ)V|b1 m|9|main|([I)I|04.ac = Op A f(JJJ)V 0 LocalRange 4
 ";
 
-fn expect<R: AllocGlobal + Abort>(rt: &R, row: &str, word: &str, status: u8) {
+/// A run of class A that ends with this word, fault and status.
+pub fn expect<R: AllocGlobal + Abort>(rt: &R, row: &str, word: &str, status: u8) {
     let mut halves = row.split(" = ");
     let classes = halves.next().expect(rt, "classes").split(" & ");
     let fault = halves.next().expect(rt, "a fault");

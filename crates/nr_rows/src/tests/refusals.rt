@@ -1,5 +1,4 @@
-//! Programs that are refused: by loading, by linking, by the look-up of `main`, by verifying, and for code that
-//! can't run yet.
+//! Programs that are refused: by loading, by linking, by the look-up of `main` and by verifying.
 use crate::tests::run::{expect, number};
 use crate::tests::scene::{M_CLASS, Scene};
 use std::process::Abort;
@@ -25,7 +24,6 @@ const REFUSALS: &str = "\
 95|4 176 0 0|6|verify Op M main([I)I 1 ReturnKind
 95|4 191 0 0|6|verify Op M main([I)I 1 NeedsKind 0 java/lang/Throwable int
 95|4 190 172 0|6|verify Op M main([I)I 1 NeedsKind 0 reference int
-95|5 6 100 172|4|class M.class OutOfThinForm 0
 ";
 
 // A program that is refused.

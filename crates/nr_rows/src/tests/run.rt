@@ -55,7 +55,6 @@ const CHANGES: &str = "\
 95|167|Code 0 Target 0 1632
 95|178|Code 0 OutOfProfile 0 178
 95|202|Code 0 UnknownOp 0
-97|100|OutOfThinForm 0
 100|5|Short 105
 102|1|Short 105
 104|1|Short 105
@@ -273,13 +272,12 @@ fn two_classes(rt: HostRuntime) {
         assert_eq!(rt; found.status, 0);
         assert_eq!(rt; found.out.as_slice(), b"result 5\n".as_slice());
     }
-    // `main` of the second class isn't of the form that runs so far
+    // `main` of the second class gives 2 - 3
     other[97] = 100;
     let files = [("M.class", M_CLASS.as_slice()), ("N.class", &other)];
     let found = run_over(&rt, &["run", "d", "N", "4"], &files, Scene::SOUND);
-    assert_eq!(rt; found.status, 4);
-    let line = b"nrmi: class N.class OutOfThinForm 0\n".as_slice();
-    assert_eq!(rt; found.err.as_slice(), line);
+    assert_eq!(rt; found.status, 0);
+    assert_eq!(rt; found.out.as_slice(), b"result -1\n".as_slice());
 }
 
 #[test]

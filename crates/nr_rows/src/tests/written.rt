@@ -1,10 +1,11 @@
 //! Class files that are written as text, a class a line.
 //!
 //! A class is `NAME FLAGS SUPER` and then parts: `i|NAME` an interface, `f|FLAGS|NAME|DESC` a field,
-//! `c|NAME` and `r|TAG|CLASS|NAME|DESC` entries of the constant pool, numbered from 0, and
-//! `m|FLAGS|NAME|DESC|CODE|MAPS|HANDLERS` a method. CODE and MAPS are bytes in hexadecimal, or `$` and the
+//! `c|NAME`, `r|TAG|CLASS|NAME|DESC` and `j|LONG` entries of the constant pool, numbered from 0, and
+//! `m|FLAGS|NAME|DESC|CODE|MAPS|HANDLERS|STACK.LOCALS` a method. CODE and MAPS are bytes in hexadecimal, or `$` and the
 //! number of an entry for its index, each after a dot. Handlers are `START.END.AT.ENTRY`, each after a comma, with `0` for
-//! the entry of one that catches all, and else the number of the entry and 1.
+//! the entry of one that catches all, and else the number of the entry and 1. STACK and LOCALS are `max_stack` and
+//! `max_locals`, both 4 where they aren't told.
 use nr_base::{Items, Name};
 use nr_classmake::ClassMaker;
 use nr_classwrite::write_class;
@@ -65,6 +66,18 @@ fn handler<R: AllocGlobal + Abort>(rt: &R, text: &str, entries: &[u16]) -> Handl
     }
 }
 
+// `max_stack` and `max_locals`.
+fn places<R: Abort>(rt: &R, text: &str) -> (u16, u16) {
+    if text.is_empty() {
+        (4, 4)
+    } else {
+        (
+            number(rt, part(text, '.', 0)),
+            number(rt, part(text, '.', 1)),
+        )
+    }
+}
+
 fn code<R: AllocGlobal + Abort>(rt: &R, text: &str, entries: &[u16]) -> Option<Code> {
     let bytes = part(text, '|', 4);
     if bytes.is_empty() {
@@ -80,9 +93,10 @@ fn code<R: AllocGlobal + Abort>(rt: &R, text: &str, entries: &[u16]) -> Option<C
         }
     }
     let maps = part(text, '|', 5);
+    let (max_stack, max_locals) = places(rt, part(text, '|', 7));
     Some(Code {
-        max_stack: 4,
-        max_locals: 4,
+        max_stack,
+        max_locals,
         bytes: bytes_of(rt, bytes, entries),
         handlers,
         maps: if maps.is_empty() {
@@ -100,6 +114,10 @@ fn entry<R: AllocGlobal + Abort>(rt: &R, maker: &mut ClassMaker, text: &str) -> 
     if word(0) == "c" {
         let index = maker.class_ref(alloc, &name(rt, word(1)));
         return index.expect(rt, "an entry");
+    }
+    if word(0) == "j" {
+        let value = word(1).parse::<i64>().expect(rt, "a long");
+        return maker.long_const(alloc, value).expect(rt, "an entry");
     }
     let tag = word(1).parse::<u8>().expect(rt, "a tag");
     assert!(rt; 9 <= tag && tag <= 11);
@@ -122,7 +140,7 @@ fn add<R: AllocGlobal + Abort>(rt: &R, maker: &mut ClassMaker, text: &str, entri
             let added = maker.add_field(alloc, flags, &name(rt, word(2)), &name(rt, word(3)), None);
             added.expect(rt, "a field");
         }
-        "c" | "r" => {
+        "c" | "r" | "j" => {
             let index = entry(rt, maker, text);
             entries.push(index).expect(rt, "an entry");
         }
