@@ -11,4 +11,4 @@ stubs=$(mktemp -d)
 trap 'rm -rf "$stubs"' EXIT
 ecj -source 1.6 -target 1.6 -nowarn -proc:none -d "$stubs" stubs/nrmi/*.java
 ecj -source 1.6 -target 1.6 -nowarn -proc:none "$debug" -preserveAllLocals -cp "$stubs" -d "$out" \
-  Counter.java demo/*.java book/*.java code/*.java
+  Counter.java demo/*.java book/*.java code/*.java faults/*.java life/*.java numbers/*.java shapes/*.java

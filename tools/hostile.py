@@ -23,7 +23,7 @@ SECONDS, BYTES = 10, 1 << 30
 CEILING, PATIENCE = 8 << 30, 120  # what a program that keeps no rule may take before it is stopped
 
 ABSTRACT, PUBLIC, STATIC = 0x0400, 0x0001, 0x0008
-NOP, CHECKCAST, INTERFACE_CALL, ARRAYS = 0, 192, 185, 197
+NOP, GET, CALL, CHECKCAST, INTERFACE_CALL, ARRAYS = 0, 180, 182, 192, 185, 197
 
 
 def u2(n):
@@ -125,6 +125,140 @@ def interface_calls(f):
     index = f.entry(b'\x0B' + u2(owner) + u2(pair))
     for n in range(14):
         f.method(letters(n), '()V', filled(INTERFACE_CALL, u2(index) + b'\x02\x00'))
+
+
+def named_by_itself(f, text=LONG_NAME):
+    """The class has this name: so all that the file names is there, and linking looks at all of it."""
+    f.this = f.named(text)
+    return f.this
+
+
+def self_casts(f):
+    index = named_by_itself(f)
+    for n in range(14):
+        f.method(letters(n), '()V', filled(CHECKCAST, u2(index)))
+
+
+def self_arrays(f):
+    named_by_itself(f, 'a' * (LONG - 3))
+    index = f.named('[L' + 'a' * (LONG - 3) + ';')
+    for n in range(13):
+        f.method(letters(n), '()V', filled(CHECKCAST, u2(index)))
+
+
+def self_interfaces(f):
+    f.interfaces = [named_by_itself(f)] * 65535
+
+
+def self_entries(f):
+    """Very many entries of one name, each used once."""
+    text = f.text(LONG_NAME)
+    named_by_itself(f)
+    indices = [f.entry(b'\x07' + u2(text)) for _ in range(65000)]
+    for n in range(3):
+        f.method(letters(n), '()V', b''.join(bytes([CHECKCAST]) + u2(i) for i in indices[n * 21000:(n + 1) * 21000]))
+
+
+def self_handlers(f):
+    index = named_by_itself(f)
+    f.method('m', '()V', bytes(LONG), (u2(0) + u2(1) + u2(0) + u2(index)) * 65535)
+
+
+def self_types(f):
+    index = named_by_itself(f)
+    f.method('m', '()V', bytes(1), maps=u2(1) + full(b'\x07' + u2(index), 16000))
+
+
+def self_frames(f):
+    """Each frame has the types of those before."""
+    index = named_by_itself(f)
+    f.method('m', '()V', bytes(8001), maps=u2(8001) + full(b'\x07' + u2(index), 2000) + bytes(8000))
+
+
+def short_self_frames(f):
+    """The same of a short name, as often as there is room."""
+    f.method('m', '()V', bytes(8001), maps=u2(8001) + full(b'\x07' + u2(f.this), 2000) + bytes(8000))
+
+
+def self_fields(f):
+    name = 'a' * (LONG - 2)
+    named_by_itself(f, name)
+    for n in range(40000):
+        f.field(letters(n), 'L' + name + ';')
+
+
+def self_static_fields(f):
+    name = 'a' * (LONG - 2)
+    named_by_itself(f, name)
+    for n in range(40000):
+        f.fields.append(u2(PUBLIC | STATIC) + u2(f.text(letters(n))) + u2(f.text('L' + name + ';')) + u2(0))
+
+
+def self_methods(f):
+    """As many as may have so long a descriptor."""
+    name = 'a' * (LONG - 5)
+    named_by_itself(f, name)
+    for n in range(4000):
+        f.abstract(letters(n), '(L' + name + ';)V')
+
+
+def self_parameters(f):
+    named_by_itself(f, 'abc')
+    desc = '(' + 'Labc;' * 254 + ')V'
+    for n in range(60000):
+        f.abstract(letters(n), desc)
+
+
+# ---- members that are looked for
+
+def digits(n):
+    """Parameters of their own for each number."""
+    return ''.join('IJZBCS'[n // 6 ** k % 6] for k in range(7))
+
+
+def used(f, op, indices, rest=b'', times=1):
+    """Methods whose code uses each of the entries."""
+    code = b''.join(bytes([op]) + u2(i) + rest for i in indices)
+    size = LONG // (3 + len(rest)) * (3 + len(rest))
+    for n in range(times):
+        for start in range(0, len(code), size):
+            f.method('x' + letters(n) + 'y' + letters(start), '()V', code[start:start + size])
+
+
+def calls_of_many_methods(f):
+    """Many methods of one long name, each called by an entry of its own."""
+    name = f.text('a' * 8000)
+    indices = []
+    for n in range(20000):
+        desc = '(' + digits(n) + ')V'
+        f.abstract('a' * 8000, desc)
+        pair = f.entry(b'\x0C' + u2(name) + u2(f.text(desc)))
+        indices.append(f.entry(b'\x0A' + u2(f.this) + u2(pair)))
+    used(f, CALL, indices, times=4)
+
+
+def calls_of_one_method(f):
+    """The last of many methods, called again and again."""
+    for n in range(30000):
+        f.abstract('a', '(' + digits(n) + ')V')
+    pair = f.entry(b'\x0C' + u2(f.text('a')) + u2(f.text('(' + digits(29999) + ')V')))
+    used(f, CALL, [f.entry(b'\x0A' + u2(f.this) + u2(pair))] * 21000, times=4)
+
+
+def gets_of_many_fields(f):
+    indices = []
+    for n in range(20000):
+        f.field('a' + letters(n), 'LM;')
+        pair = f.entry(b'\x0C' + u2(f.text('a' + letters(n))) + u2(f.text('LM;')))
+        indices.append(f.entry(b'\x09' + u2(f.this) + u2(pair)))
+    used(f, GET, indices, times=4)
+
+
+def gets_of_one_field(f):
+    for n in range(40000):
+        f.field('a' + letters(n), 'LM;')
+    pair = f.entry(b'\x0C' + u2(f.text('a' + letters(39999))) + u2(f.text('LM;')))
+    used(f, GET, [f.entry(b'\x09' + u2(f.this) + u2(pair))] * 21000, times=3)
 
 
 def methods_of_one_name(f):
@@ -236,6 +370,9 @@ def descriptors(f):
 
 CASES = [
     interfaces, class_entries, casts, arrays, interface_calls,
+    self_casts, self_arrays, self_interfaces, self_entries, self_handlers, self_types, self_frames, short_self_frames,
+    self_fields, self_static_fields, self_methods, self_parameters,
+    calls_of_many_methods, calls_of_one_method, gets_of_many_fields, gets_of_one_field,
     methods_of_one_name, methods_of_one_descriptor, fields_of_one_name, fields_of_one_descriptor, texts_alike,
     handlers, handlers_of_a_class,
     types_of_a_class, same_frames, more_same_frames, frames_in_methods, chopped_frames, frames_of_a_class,

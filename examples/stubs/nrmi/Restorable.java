@@ -1,5 +1,5 @@
 package nrmi;
 
-/** Stands for the built-in marker while the examples are compiled. It isn't loaded. */
+/** Stands for the built-in marker while programs are compiled. It isn't loaded. */
 public interface Restorable extends java.io.Serializable {
 }
