@@ -7,7 +7,7 @@ use Rattle.nr_model.specs.Steps.{Run}
 use Rattle.nr_model.specs.Outcomes.{Fate, Ended, BudgetSpent, passed, Outcome, ended, spent, limited, further}
 use Rattle.nr_model.specs.Asks.{Asks, Entry, AskRun, arrived, own, asked}
 use Rattle.nr_model.specs.LimitedRuns.{LimitedRun, there, own_step, remote_step}
-use Rattle.nr_model.specs.AskOutcomes.{AskFate, Settled, Unanswered, Stops, at_end, at_budget, at_limit, at_answer, at_call, AskOutcome}
+use Rattle.nr_model.specs.AskOutcomes.{AskFate, Settled, Refused, Unanswered, Stops, at_end, at_budget, at_limit, at_answer, at_call, AskOutcome}
 use Rattle.nr_model.proofs.Outcomes.{passes_no_end}
 use Rattle.nr_model.proofs.Following.{limited_join}
 use Rattle.nr_model.proofs.Limits.{limited_keeps}
@@ -59,7 +59,7 @@ module _ (P : ProgramTables) where
       subst (λ n. Stops P service (j + b) (j + k) t n (Settled g)) i (at_limit u (omega (arith, l)) c d p)
   stops_later service j b k n f t (at_answer u e {fate = g} l a p) =
       let i : suc (j + k) ≡ j + suc k = omega arith in
-      subst (λ n. Stops P service (j + b) (j + k) t n (Settled g)) i (at_answer u e (omega (arith, l)) a p)
+      subst (λ n. Stops P service (j + b) (j + k) t n (Refused e g)) i (at_answer u e (omega (arith, l)) a p)
   stops_later service j b k n f t (at_call l a) = at_call (omega (arith, l)) a
 
   pub ask_outcome_joins : (service : Option ℕ) (j b n : ℕ) (f : AskFate) (s m t : State) (calls more : List Entry) → LimitedRun P service s calls j m → AskOutcome P service m more b n f t
@@ -83,10 +83,10 @@ module _ (P : ProgramTables) where
         where
           inner : Settled g ≡ Settled Ended → g ≡ Ended
           inner e = cc
-      go n f e (at_answer u d {fate = g} l a p) = absurd (passes_no_end P u (p ∙ ap (λ g. Some g) (inner e)))
+      go n f e (at_answer u d {fate = g} l a p) = absurd (bad e)
         where
-          inner : Settled g ≡ Settled Ended → g ≡ Ended
-          inner e = cc
+          bad : Refused d g ≡ Settled Ended → ⊥
+          bad e = cc
       go n f e (at_call l a) = absurd (bad e)
         where
           bad : Unanswered ≡ Settled Ended → ⊥

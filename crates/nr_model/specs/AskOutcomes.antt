@@ -7,9 +7,11 @@ use Rattle.nr_model.specs.Outcomes.{Fate, Ended, BudgetSpent, passed}
 use Rattle.nr_model.specs.Asks.{Asks, AskStep, Entry}
 use Rattle.nr_model.specs.LimitedRuns.{LimitedRun}
 
--- as a run without remote calls ends, or at a remote call that isn't answered yet
+-- as a run without remote calls ends; or at a remote call whose answer would lead past a limit; or at one that isn't
+-- answered yet
 pub data AskFate : Type 0 where
   Settled : Fate → AskFate
+  Refused : Entry → Fate → AskFate
   Unanswered : AskFate
 
 -- Why a run stops at a state, after so many steps of the budget; and the number of steps that count. An end comes first,
@@ -20,7 +22,7 @@ pub data Stops (P : ProgramTables) (service : Option ℕ) (budget made : ℕ) (s
   at_limit : (t : State) {fate : Fate} → made < budget → (Asks P service s → ⊥) → Step P s t → passed P t ≡ Some fate
       → Stops P service budget made s (suc made) (Settled fate)
   at_answer : (t : State) (e : Entry) {fate : Fate} → made < budget → AskStep P service s e t → passed P t ≡ Some fate
-      → Stops P service budget made s (suc made) (Settled fate)
+      → Stops P service budget made s (suc made) (Refused e fate)
   at_call : made < budget → Asks P service s → Stops P service budget made s made Unanswered
 
 -- From s, with these answered calls and this budget, the outcome is the fate, after so many steps, and leaves the state t.
