@@ -39,6 +39,7 @@ impl Form {
     }
 
     /// The form of an array's elements, or `None` for an object.
+    #[inline(always)]
     pub fn of_elements(kind: Kind) -> Option<Form>
         ensures { result ≡ elements_form kind }
     {
@@ -52,6 +53,7 @@ impl Form {
     }
 
     /// The form in which a word holds the value alone.
+    #[inline(always)]
     pub fn of_value(value: Value) -> Form
         ensures { result ≡ form_of_value value }
     {
@@ -107,6 +109,7 @@ impl Form {
     }
 
     /// The value that the lowest bits stand for.
+    #[inline(always)]
     pub fn value(self, word: u64) -> Value
         ensures { result ≡ value_in self word }
     {
@@ -158,6 +161,7 @@ impl Form {
 }
 
 /// The bits that stand for a value.
+#[inline(always)]
 pub(crate) fn bits_of_value(value: Value) -> u64
     ensures bits { result ≡ bits_of value }
     ensures sized { IsSized value }

@@ -91,6 +91,7 @@ impl Heap {
     }
 
     /// The class of an object or an array.
+    #[inline(always)]
     pub fn kind_of(&self, r: Ref) -> Kind
         requires { IsSomeAnd (get self.now.objects r) (λ o. Unit {0}) }
         ensures { IsSomeAnd (get self.now.objects r) (λ o. o.kind ≡ result) }
@@ -99,6 +100,7 @@ impl Heap {
     }
 
     /// How many elements an array has, or `None` for an object.
+    #[inline(always)]
     pub fn len_of(&self, r: Ref) -> Option<u32>
         requires { IsSomeAnd (get self.now.objects r) (λ o. Unit {0}) }
         ensures { IsSomeAnd (get self.now.objects r) (λ o. result ≡ (if is_array o.kind then Some (length o.slots) else None)) }
@@ -111,6 +113,7 @@ impl Heap {
     }
 
     /// What a slot of an object or an array holds.
+    #[inline(always)]
     pub fn get_slot(&self, r: Ref, slot: u32) -> Value
         requires { IsSomeAnd (get self.now.objects r) (λ o. slot < length o.slots) }
         ensures { IsSomeAnd (get self.now.objects r) (λ o. slice_get o.slots slot ≡ Some result) }
@@ -120,6 +123,7 @@ impl Heap {
     }
 
     /// Puts a value into a slot of an object or an array.
+    #[inline(always)]
     pub fn set_slot(&mut self, r: Ref, slot: u32, value: Value)
         requires slot { IsSomeAnd (get self.old.objects r) (λ o. slot < length o.slots) }
         requires keeps { IsSomeAnd (get self.old.objects r) (λ o. Keeps o.kind value) }

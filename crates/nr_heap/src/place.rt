@@ -32,6 +32,7 @@ impl Place {
     }
 
     /// What a slot holds.
+    #[inline(always)]
     pub fn load(self, forms: &[Form], words: &[u64], slot: u32) -> Value
         requires slot { slot < self.len }
         requires within { self.start + width self.kind self.len ≤ length words.now }
@@ -52,6 +53,7 @@ impl Place {
     }
 
     /// Puts a value into a slot.
+    #[inline(always)]
     pub fn store(self, forms: &mut [Form], words: &mut [u64], slot: u32, value: Value)
         requires slot { slot < self.len }
         requires within { self.start + width self.kind self.len ≤ length words.old }
